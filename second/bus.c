@@ -1,5 +1,5 @@
 /* Transactions: what the pack answers to the bytes on the bus. */
-#include "snatchblock2.h"
+#include "inside.h"
 
 #include <string.h>
 

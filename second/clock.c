@@ -1,5 +1,5 @@
 /* Samples, the timers they drive and the messages that the pack sends. */
-#include "snatchblock2.h"
+#include "inside.h"
 
 enum { HOST = 0x10, CHARGER = 0x12, ALARM_WARNING = 0x16, CHARGING_CURRENT = 0x14, CHARGING_VOLTAGE = 0x15 };
 enum { ALARM_BITS = 0xDB00, CHARGER_ALARM_BITS = 0xD000, ERROR_BITS = 0x000F };

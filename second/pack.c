@@ -1,5 +1,5 @@
 /* The pack's state: set-up, soundness and the words of its registers. */
-#include "snatchblock2.h"
+#include "inside.h"
 
 #include <string.h>
 

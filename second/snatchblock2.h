@@ -143,12 +143,6 @@ bool sb2_sound(const struct sb2_state *state);
 /* Tells whether two states agree in every field, unused kept currents too. */
 bool sb2_same(const struct sb2_state *a, const struct sb2_state *b);
 
-/* The word that a read of command 00 to 1C shows, 0 for any other (rule: Registers). */
-uint16_t sb2_register(const struct sb2_state *state, uint8_t command);
-
-/* The word of BatteryStatus, error code included (rule: Registers, 16). */
-uint16_t sb2_status(const struct sb2_state *state);
-
 /* Packs a date as ManufactureDate does (002, 5.1.26). */
 uint16_t sb2_pack_date(unsigned year, unsigned month, unsigned day);
 
