@@ -351,6 +351,7 @@ static void answers_in_order(void)
     CHECK(s.error_code, 6);
     CHECK(answer_of(&s, false, BYTES(0x16, 0xFF, 0x17)), 4);
     CHECK(answer_of(&s, true, BYTES(0x16, 0x00, 0x00, 0x00)), 4);
+    CHECK(answer_of(&s, true, BYTES(0x16, 0x00, 0x17, 0x00)), 4);
     CHECK(answer_of(&s, false, BYTES(0x16)), 4);
     CHECK(answer_of(&s, false, BYTES(0x16, 0xFF, 0, 0, 0)), 5);
     CHECK(s.error_code, 7);
@@ -467,10 +468,21 @@ static void registers(void)
     CHECK(word(&s, 0x07), 1);
     CHECK(put(&s, 0x04, (unsigned)-14400 & 0xFFFF), 0);
     CHECK(word(&s, 0x07), 0);
-    in.first.current = 20000; /* a charge doesn't help */
+    in.first.current = 20000; /* a charge neither helps nor harms */
     s = made(in);
+    CHECK(put(&s, 0x04, (unsigned)-14400 & 0xFFFF), 0);
+    CHECK(word(&s, 0x07), 1);
     CHECK(put(&s, 0x04, (unsigned)-14401 & 0xFFFF), 0);
     CHECK(word(&s, 0x07), 0);
+
+    in.first.current = 0; /* 10 mW at 7 V for 10 s: 14,285 and five sevenths mA·ms */
+    s = made(in);
+    CHECK(put(&s, 0x03, 0x8000), 0);
+    CHECK(put(&s, 0x04, 0xFFFF), 0);
+    s.tank.charge = 14285;
+    CHECK(word(&s, 0x07), 0);
+    s.tank.charge = 14286;
+    CHECK(word(&s, 0x07), 1);
 
     /* power mode: a rate that rounds to 0 */
     in = usual;
@@ -487,6 +499,64 @@ static void registers(void)
     CHECK(word(&s, 0x11), 65535);
     CHECK(word(&s, 0x12), 65535);
     CHECK(word(&s, 0x13), 65534);
+
+    /* power mode: capacities at the design voltage, rates at the latest */
+    in = usual;
+    in.first.voltage = 10000;
+    in.first.current = -1000;
+    s = made(in);
+    CHECK(put(&s, 0x03, 0x8000), 0);
+    CHECK(word(&s, 0x0F), 2960);
+    CHECK(word(&s, 0x10), 5920);
+    CHECK(word(&s, 0x18), 5920);
+    CHECK(word(&s, 0x11), 177);
+    CHECK(word(&s, 0x12), 177);
+    CHECK(put(&s, 0x04, (unsigned)-1000 & 0xFFFF), 0);
+    CHECK(word(&s, 0x06), 177);
+    CHECK(put(&s, 0x04, 1000), 0);
+    CHECK(word(&s, 0x05), 65535);
+    in.first.current = 1000;
+    s = made(in);
+    CHECK(put(&s, 0x03, 0x8000), 0);
+    CHECK(word(&s, 0x13), 177);
+    in.first.current = 0;
+    s = made(in);
+    CHECK(word(&s, 0x11), 65535);
+    CHECK(word(&s, 0x12), 65535);
+    CHECK(word(&s, 0x13), 65535);
+
+    /* present current in 11, the mean in 12 and 13 and in bit 8 */
+    in = usual;
+    in.first.current = -1000;
+    s = made(in);
+    CHECK(word(&s, 0x12), 120);
+    sample(&s, 14800, -3000, 0, 0, NULL);
+    CHECK(word(&s, 0x11), 40);
+    CHECK(word(&s, 0x12), 60);
+    CHECK(put(&s, 0x02, 60), 0);
+    CHECK(word(&s, 0x16), 0x00C0);
+    CHECK(put(&s, 0x02, 61), 0);
+    CHECK(word(&s, 0x16), 0x01C0);
+    in.first.current = 1000;
+    s = made(in);
+    sample(&s, 14800, 3000, 0, 0, NULL);
+    CHECK(word(&s, 0x13), 60);
+
+    /* full and design apart; limits met exactly */
+    in = usual;
+    in.full_capacity = 2000;
+    in.remaining_capacity = 1000;
+    s = made(in);
+    CHECK(word(&s, 0x0D), 50);
+    CHECK(word(&s, 0x0E), 25);
+    CHECK(word(&s, 0x01), 400);
+    CHECK(put(&s, 0x01, 1000), 0);
+    CHECK(word(&s, 0x16), 0x00C0);
+    CHECK(put(&s, 0x01, 1001), 0);
+    CHECK(word(&s, 0x16), 0x02C0);
+    CHECK(put(&s, 0x01, 0), 0);
+    CHECK(put(&s, 0x02, 0), 0);
+    CHECK(word(&s, 0x16), 0x00C0);
 
     /* BatteryMode keeps three bits; a mode change converts nothing */
     s = made(usual);
@@ -523,6 +593,9 @@ static void registers(void)
     CHECK(word(&s, 0x14), 1500);
     in.first.temperature = 0;
     in.first.current = -1;
+    in.discharge_limit = 14800;
+    s = made(in);
+    CHECK(word(&s, 0x16), 0x00C0);
     in.discharge_limit = 14801;
     s = made(in);
     CHECK(word(&s, 0x16), 0x08C0);
@@ -592,6 +665,29 @@ static void clock_and_broadcasts(void)
     CHECK(put(&s, 0x03, 0x0000), 0);
     CHECK(s.timers.hold, 0);
     CHECK(sample(&s, 14800, 0, 0, 110000, sent), 1);
+
+    /* each alarm bit alone: 11 and 8 for the host, 12 for the charger too; none without a bit */
+    in = usual;
+    in.first.current = -1;
+    in.discharge_limit = 14801;
+    s = made(in);
+    CHECK(sample(&s, 14800, -1, 0, 0, sent), 1);
+    CHECK(memcmp(sent, "\x10\x16\xCF\x08", 4), 0);
+    in.discharge_limit = 0;
+    s = made(in);
+    CHECK(put(&s, 0x02, 65535), 0);
+    CHECK(sample(&s, 14800, -1, 0, 0, sent), 1);
+    CHECK(memcmp(sent, "\x10\x16\xCF\x01", 4), 0);
+    in.first.current = 0;
+    s = made(in);
+    CHECK(sample(&s, 14800, 0, 1, 0, sent), 2);
+    CHECK(memcmp(sent, "\x10\x16\xCF\x10\x12\x16\xCF\x10", 8), 0);
+    s = made(in);
+    CHECK(sample(&s, 14800, 0, 0, 20000, sent), 0);
+    /* a mode write that leaves CHARGER_MODE clear leaves its timer */
+    CHECK(put(&s, 0x03, 0xA000), 0);
+    CHECK(s.timers.charger, 20000);
+    CHECK(sample(&s, 14800, 0, 0, 30000, sent), 2);
 
     /* charge, held at 0 and at full; bit 4 */
     in = usual;
@@ -681,7 +777,11 @@ static void sheets(void)
     most[2].given = false;
     CHECK(sb2_sheet_write(most, a, 145, &length), 0);
 
-    /* every change of one byte in the contents spoils a sheet, but for none that keeps it one */
+    /* rows that break the form */
+    uint8_t long_body[5 + 33] = {1, 0x20, 33, 5, 0};
+    CHECK(sb2_sheet_good(bytes(long_body, 5 + 33)), false);
+    long_body[2] = 32;
+    CHECK(sb2_sheet_good(bytes(long_body, 5 + 32)), true);
     CHECK(sb2_sheet_good(BYTES(1, 0x20, 1, 5, 0, 'x')), true);
     CHECK(sb2_sheet_good(BYTES(1, 0x24, 1, 5, 0, 'x')), false);
     CHECK(sb2_sheet_good(BYTES(1, 0x1F, 1, 5, 0, 'x')), false);
@@ -716,6 +816,10 @@ static void captures(void)
     CHECK(sb2_capture_test(bytes(longest, sizeof longest - 1)), 14);
     longest[2] = 38;
     CHECK(sb2_capture_test(bytes(longest, sizeof longest)), 14);
+    uint8_t long_row[3 + 38] = {1, 0, 38};
+    CHECK(sb2_capture_test(bytes(long_row, 3 + 38)), 14);
+    long_row[2] = 37;
+    CHECK(sb2_capture_test(bytes(long_row, 3 + 37)), 0);
     CHECK(sb2_walk_begin(nothing, &walk), 14);
     CHECK(sb2_walk_next(&walk, &row), false);
     CHECK(sb2_walk_begin(BYTES(0), &walk), 0);
