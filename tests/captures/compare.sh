@@ -6,6 +6,8 @@
 # All files are made in target/captures; status 0 only if every line agrees and
 # every class that the tally counts came up.
 set -u
+LC_ALL=C
+export LC_ALL
 
 if [ $# -lt 2 ] || [ $# -gt 4 ]; then
     echo "usage: $0 PLAYER SECOND [SEED [ROWS]]" >&2
