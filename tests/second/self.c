@@ -881,6 +881,113 @@ static void keys(void)
     CHECK(sb2_key_read(text("12345678901234567890123456789012/P/0000/0000"), &parts), 0);
 }
 
+/* ---- document 01's promises on long random work */
+
+static uint64_t chance = 1;
+
+static uint32_t draw(void)
+{
+    chance = chance * UINT64_C(6364136223846793005) + UINT64_C(1442695040888963407);
+    return (uint32_t)(chance >> 32);
+}
+
+/* A word, often at an edge. */
+static uint16_t draw_word(void)
+{
+    static const uint16_t edges[] = {0, 1, 2, 10, 0x16, 100, 0x7FFF, 0x8000, 0xE000, 0xFFFE, 0xFFFF};
+    return draw() % 3 ? (uint16_t)draw() : edges[draw() % (sizeof edges / sizeof *edges)];
+}
+
+static struct sb2_sample draw_sample(uint32_t counter)
+{
+    static const uint32_t steps[] = {0, 1, 999, 1000, 1001, 9999, 10000, 30000, 60000, 3600000, 0xFFFFFFFF};
+    struct sb2_sample made = {draw_word(), 0, draw_word(), 0};
+    uint16_t current = draw_word();
+    memcpy(&made.current, &current, sizeof current);
+    made.counter = counter + (draw() % 4 ? steps[draw() % (sizeof steps / sizeof *steps)] : draw());
+    return made;
+}
+
+static void long_work(void)
+{
+    uint8_t sheet[SB2_SHEET_ROOM];
+    size_t sheet_length;
+    struct sb2_body bodies[4] = {{true, text("HAZEL")}, {false, nothing}, {true, nothing}, {true, text("K-12")}};
+    CHECK(sb2_sheet_write(bodies, sheet, sizeof sheet, &sheet_length), 0);
+    unsigned long broken = 0, unsound = 0;
+    unsigned long answers[16] = {0};
+    for (unsigned round = 0; round < 2000; round++) {
+        struct sb2_state s;
+        struct sb2_set_up in = {.design_capacity = draw_word(), .full_capacity = draw_word(),
+                                .remaining_capacity = draw_word(), .design_voltage = draw_word(),
+                                .charging_current = draw_word(), .charging_voltage = draw_word(),
+                                .temperature_limit = draw_word(), .discharge_limit = draw_word(),
+                                .first = draw_sample(draw())};
+        int answer = sb2_set_up(&s, &in);
+        answers[answer]++;
+        broken += sb2_sound(&s) != (answer == 0);
+        if (draw() % 8 == 0) /* any state at all */
+            s.kept.count = draw() % 70;
+        if (draw() % 8 == 0)
+            s.error_code = draw() % 12;
+        if (draw() % 8 == 0)
+            s.timers.hold = draw() % 70000;
+        bool sound = sb2_sound(&s);
+        unsound += !sound;
+        for (unsigned call = 0; call < 100; call++) {
+            uint8_t room[40], untouched[40];
+            size_t length;
+            struct sb2_state before = s;
+            memset(room, 0x5A, sizeof room);
+            memset(untouched, 0x5A, sizeof untouched);
+            if (draw() % 2) {
+                struct sb2_sample taken = draw_sample(s.latest.counter);
+                size_t room_length = draw() % 8 ? 16 + draw() % 20 : draw() % 16;
+                answer = sb2_take_sample(&s, &taken, room, room_length, &length);
+                broken += s.error_code != before.error_code;
+            } else {
+                uint8_t message[SB2_MESSAGE_MOST];
+                size_t count = draw() % 8 ? 3 + draw() % 3 : draw() % 38;
+                bool read = count == 3;
+                for (size_t i = 0; i < count; i++)
+                    message[i] = (uint8_t)draw();
+                if (count > 0 && draw() % 8)
+                    message[0] = 0x16;
+                if (count > 1 && draw() % 8)
+                    message[1] = read ? draw() % 0x24 : draw() % 6;
+                if (read && draw() % 8)
+                    message[2] = 0x17;
+                if (count == 5 && draw() % 2)
+                    message[4] = sb2_pec(bytes(message, 4));
+                size_t room_length = draw() % 8 ? 34 + draw() % 4 : draw() % 34;
+                answer = sb2_transact(&s, read, bytes(message, count), bytes(sheet, sheet_length - draw() % 9 / 8), NO_NAMES,
+                                      room, room_length, &length);
+                if (answer == 0 || answer == 10) {
+                    uint8_t exchange[SB2_MESSAGE_MOST];
+                    bool accepted = false;
+                    memcpy(exchange, message, 3);
+                    memcpy(exchange + 3, room, length);
+                    if (read)
+                        sb2_check_exchange(bytes(exchange, 3 + length), &accepted);
+                    broken += read != accepted || read == (length == 0);
+                }
+            }
+            answers[answer]++;
+            broken += sb2_sound(&s) != sound || (answer == 1) == sound;
+            broken += memcmp(room + length, untouched, sizeof room - length) != 0;
+            if (answer != 0 && answer != 10) {
+                broken += length != 0;
+                before.error_code = answer <= 3 ? before.error_code : s.error_code;
+                broken += !sb2_same(&before, &s);
+            }
+        }
+    }
+    CHECK(broken, 0);
+    CHECK(unsound > 0, true);
+    for (unsigned number = 0; number <= 11; number++)
+        CHECK(answers[number] > 0, true);
+}
+
 int main(void)
 {
     worked_examples();
@@ -893,6 +1000,7 @@ int main(void)
     sheets();
     captures();
     keys();
+    long_work();
     printf("second: %u passed, %u failed\n", passed, failed);
     return failed == 0 ? 0 : 1;
 }
