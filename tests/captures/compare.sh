@@ -32,7 +32,7 @@ play() { # COMMAND CAPTURE LINES
     # shellcheck disable=SC2086
     $1 <"$2" >"$3"
     status=$?
-    if [ "$status" -ge 126 ]; then
+    if [ "$status" -ge 125 ]; then
         echo "seed $seed, $2: '$1' ended with status $status"
         exit 1
     fi
