@@ -1,0 +1,113 @@
+/* Samples, the timers they drive and the messages that the pack sends. */
+#include "inside.h"
+
+enum { HOST = 0x10, CHARGER = 0x12, ALARM_WARNING = 0x16, CHARGING_CURRENT = 0x14, CHARGING_VOLTAGE = 0x15 };
+enum { ALARM_BITS = 0xDB00, CHARGER_ALARM_BITS = 0xD000, ERROR_BITS = 0x000F };
+
+/* Subtraction in 32 bits (rule: Clock and broadcasts; worked example 11). */
+uint32_t sb2_elapsed(uint32_t before, uint32_t now)
+{
+    return now - before;
+}
+
+/* Puts one message of four bytes, its word low byte first (rule: Clock and broadcasts). */
+static size_t put_message(uint8_t *room, size_t place, uint8_t address, uint8_t command, uint16_t word)
+{
+    room[place] = address;
+    room[place + 1] = command;
+    room[place + 2] = (uint8_t)(word & 0xFF);
+    room[place + 3] = (uint8_t)(word >> 8);
+    return place + 4;
+}
+
+/* Puts the newest current in front; the oldest of 60 falls out (rule: Registers, 0B). */
+static void keep_current(struct sb2_kept *kept, int16_t current)
+{
+    for (size_t i = SB2_KEPT - 1; i > 0; i--)
+        kept->current[i] = kept->current[i - 1];
+    kept->current[0] = current;
+    if (kept->count < SB2_KEPT)
+        kept->count++;
+}
+
+/* Adds current × elapsed and holds the sum between 0 and full (rule: Registers, charge). */
+static void add_charge(struct sb2_tank *tank, int16_t current, uint32_t elapsed)
+{
+    int64_t full = (int64_t)tank->full_capacity * SB2_MS_PER_HOUR;
+    int64_t charge = (int64_t)tank->charge + (int64_t)current * (int64_t)elapsed;
+    if (charge < 0)
+        charge = 0;
+    if (charge > full)
+        charge = full;
+    tank->charge = (uint64_t)charge;
+}
+
+/* Sets bit 4 at charge 0, clears it at 20 percent, else keeps it (rule: Registers, 16, bit 4). */
+static void decide_discharged(struct sb2_state *s)
+{
+    if (s->tank.charge == 0)
+        s->tank.fully_discharged = true;
+    else if (sb2_register(s, 0x0D) >= 20)
+        s->tank.fully_discharged = false;
+}
+
+/* Counts the hold down and clears ALARM_MODE at 0; the alarm timer counts up to 10,000 (rule: Clock and broadcasts). */
+static void count_timers(struct sb2_state *s, uint32_t elapsed)
+{
+    s->timers.hold = s->timers.hold > elapsed ? s->timers.hold - elapsed : 0;
+    if (s->timers.hold == 0)
+        s->host.alarm_mode = false;
+    if (elapsed >= SB2_ALARM_MS - s->timers.alarm)
+        s->timers.alarm = SB2_ALARM_MS;
+    else
+        s->timers.alarm += elapsed;
+}
+
+/* Alarms for the host and, for charging alarms, the charger (rule: Clock and broadcasts). */
+static size_t send_alarms(struct sb2_state *s, uint8_t *room, size_t place)
+{
+    uint16_t word = sb2_status(s) | ERROR_BITS;
+    if ((word & ALARM_BITS) == 0 || s->host.alarm_mode || s->timers.alarm < SB2_ALARM_MS)
+        return place;
+    s->timers.alarm = 0;
+    place = put_message(room, place, HOST, ALARM_WARNING, word);
+    if (word & CHARGER_ALARM_BITS)
+        place = put_message(room, place, CHARGER, ALARM_WARNING, word);
+    return place;
+}
+
+/* The words 14 and 15 each 30,000 ms while CHARGER_MODE is clear (rule: Clock and broadcasts). */
+static size_t send_charger_words(struct sb2_state *s, uint32_t elapsed, uint8_t *room, size_t place)
+{
+    if (s->host.charger_mode) {
+        s->timers.charger = 0;
+        return place;
+    }
+    if (elapsed < SB2_CHARGER_MS - s->timers.charger) {
+        s->timers.charger += elapsed;
+        return place;
+    }
+    s->timers.charger = 0;
+    place = put_message(room, place, CHARGER, CHARGING_CURRENT, sb2_register(s, CHARGING_CURRENT));
+    return put_message(room, place, CHARGER, CHARGING_VOLTAGE, sb2_register(s, CHARGING_VOLTAGE));
+}
+
+/* 1, 2, or a sample taken: readings, charge, bit 4, countdown, then the messages (rule: Clock and broadcasts). */
+int sb2_take_sample(struct sb2_state *state, const struct sb2_sample *sample, uint8_t *room, size_t room_length,
+                    size_t *length)
+{
+    *length = 0;
+    if (!sb2_sound(state))
+        return SB2_NOT_SOUND;
+    if (room_length < SB2_BROADCAST_ROOM)
+        return SB2_SMALL_ROOM;
+    uint32_t elapsed = sb2_elapsed(state->latest.counter, sample->counter);
+    state->latest = *sample;
+    keep_current(&state->kept, sample->current);
+    add_charge(&state->tank, sample->current, elapsed);
+    decide_discharged(state);
+    count_timers(state, elapsed);
+    size_t place = send_alarms(state, room, 0);
+    *length = send_charger_words(state, elapsed, room, place);
+    return SB2_SERVED;
+}

@@ -1,0 +1,265 @@
+/* A second, separately written form of the battery pack's rules, in plain C11.
+ *
+ * It is written from document 01 and the Smart Battery Data Specification 1.1
+ * alone, to be run beside the proved library and compared with it. "Rule:" in
+ * a comment names the section of document 01 that a function carries out.
+ *
+ * A pointer may be null where the length given with it is 0. Rooms are lent
+ * memory: a refused call writes no byte of them, a served one only the front.
+ * The bytes read by a call and the room it writes must not overlap.
+ */
+#ifndef SNATCHBLOCK2_H
+#define SNATCHBLOCK2_H
+
+#include <stdbool.h>
+#include <stddef.h>
+#include <stdint.h>
+
+/* The answer numbers (rule: Answer numbers). */
+enum sb2_answer {
+    SB2_SERVED = 0,
+    SB2_NOT_SOUND = 1,
+    SB2_SMALL_ROOM = 2,
+    SB2_NOT_FOR_PACK = 3,
+    SB2_WRONG_FORM = 4,
+    SB2_WRONG_PEC = 5,
+    SB2_RESERVED = 6,
+    SB2_NOT_BUILT = 7,
+    SB2_READ_ONLY = 8,
+    SB2_BAD_SHEET = 9,
+    SB2_OVERFLOW = 10,
+    SB2_BAD_SET_UP = 11,
+    SB2_CANNOT_WRITE = 12,
+    SB2_NOT_A_KEY = 13,
+    SB2_NOT_A_CAPTURE = 14,
+    SB2_OUT_OF_RANGE = 15
+};
+
+/* Sizes and times of document 01. */
+enum {
+    SB2_REPLY_ROOM = 34,
+    SB2_BROADCAST_ROOM = 16,
+    SB2_KEY_ROOM = 139,
+    SB2_SHEET_ROOM = 145,
+    SB2_NAME_MOST = 32,
+    SB2_MESSAGE_MOST = 37,
+    SB2_CAPTURE_MOST = 1 + 255 * 39,
+    SB2_KEPT = 60,
+    SB2_HOLD_MS = 60000,
+    SB2_ALARM_MS = 10000,
+    SB2_CHARGER_MS = 30000,
+    SB2_MS_PER_HOUR = 3600000
+};
+
+/* ---- the pack's state */
+
+/* What set-up brings once and nothing changes. */
+struct sb2_settings {
+    uint16_t design_capacity;   /* mAh */
+    uint16_t design_voltage;    /* mV */
+    uint16_t max_error;         /* percent */
+    uint16_t manufacture_date;  /* packed as 002 says */
+    uint16_t serial_number;
+    uint16_t charging_current;  /* mA */
+    uint16_t charging_voltage;  /* mV */
+    uint16_t temperature_limit; /* 0.1 K */
+    uint16_t discharge_limit;   /* mV */
+};
+
+/* What the host writes over the bus. */
+struct sb2_host {
+    uint16_t manufacturer_access;
+    uint16_t remaining_capacity_alarm;
+    uint16_t remaining_time_alarm;
+    int16_t at_rate;
+    bool alarm_mode;    /* bit 13 of BatteryMode */
+    bool charger_mode;  /* bit 14 */
+    bool capacity_mode; /* bit 15: power mode */
+};
+
+/* A sample of the measuring side. */
+struct sb2_sample {
+    uint16_t voltage;     /* mV */
+    int16_t current;      /* mA, above 0 into the pack */
+    uint16_t temperature; /* 0.1 K */
+    uint32_t counter;     /* ms, wraps */
+};
+
+/* The currents of the last samples, the newest first. */
+struct sb2_kept {
+    int16_t current[SB2_KEPT];
+    uint32_t count;
+};
+
+/* The charge and what goes with it. */
+struct sb2_tank {
+    uint64_t charge;        /* mA·ms */
+    uint16_t full_capacity; /* mAh */
+    uint16_t cycle_count;
+    bool fully_discharged; /* bit 4 of BatteryStatus */
+};
+
+/* Times in ms, as they stood at the last sample. */
+struct sb2_timers {
+    uint32_t hold;    /* what is left of the alarm hold */
+    uint32_t alarm;   /* since the last alarm, at most 10,000 */
+    uint32_t charger; /* since the last charger words */
+};
+
+/* The whole pack; any content is allowed, and only some is sound. */
+struct sb2_state {
+    uint32_t error_code;
+    struct sb2_settings settings;
+    struct sb2_host host;
+    struct sb2_sample latest;
+    struct sb2_kept kept;
+    struct sb2_tank tank;
+    struct sb2_timers timers;
+};
+
+/* What set-up takes. */
+struct sb2_set_up {
+    uint16_t design_capacity;
+    uint16_t full_capacity;
+    uint16_t remaining_capacity;
+    uint16_t design_voltage;
+    uint16_t max_error;
+    uint16_t cycle_count;
+    uint16_t manufacture_date;
+    uint16_t serial_number;
+    uint16_t charging_current;
+    uint16_t charging_voltage;
+    uint16_t temperature_limit;
+    uint16_t discharge_limit;
+    struct sb2_sample first;
+};
+
+/* Makes a state: answers 0, or 11 with the all-zero state (rule: Answer numbers, 11). */
+int sb2_set_up(struct sb2_state *state, const struct sb2_set_up *in);
+
+/* Tells whether a state is sound (rule: Answer numbers, last paragraph). */
+bool sb2_sound(const struct sb2_state *state);
+
+/* Tells whether two states agree in every field, unused kept currents too. */
+bool sb2_same(const struct sb2_state *a, const struct sb2_state *b);
+
+/* Packs a date as ManufactureDate does (002, 5.1.26). */
+uint16_t sb2_pack_date(unsigned year, unsigned month, unsigned day);
+
+/* Packs SpecificationInfo (002, 5.1.25). */
+uint16_t sb2_pack_specification(unsigned version, unsigned revision, unsigned voltage_scale, unsigned current_scale);
+
+/* ---- the clock */
+
+/* Milliseconds from one counter reading to the next, wrapping (rule: Clock and broadcasts). */
+uint32_t sb2_elapsed(uint32_t before, uint32_t now);
+
+/* Takes a sample and writes the messages due: answers 0, 1 or 2; *length is four bytes for
+ * each message, 0 if refused (rule: Clock and broadcasts). */
+int sb2_take_sample(struct sb2_state *state, const struct sb2_sample *sample, uint8_t *room, size_t room_length,
+                    size_t *length);
+
+/* ---- the bus */
+
+/* Bytes that are lent for reading. */
+struct sb2_bytes {
+    const uint8_t *at;
+    size_t length;
+};
+
+/* What a command is (rule: Transactions, the rows of 0x00 to 0x3F). */
+enum sb2_kind { SB2_KIND_RESERVED, SB2_KIND_OPTIONAL, SB2_KIND_WRITE_WORD, SB2_KIND_READ_WORD, SB2_KIND_READ_BLOCK };
+
+/* The kind of a command; 40 to FF are reserved (rule: Transactions). */
+enum sb2_kind sb2_kind_of(uint8_t command);
+
+/* Carries out one transaction: answers 0 to 10; *length is the reply's, 0 if there is none
+ * (rule: Transactions). `read` is the driver's mark. */
+int sb2_transact(struct sb2_state *state, bool read, struct sb2_bytes message, struct sb2_bytes service,
+                 struct sb2_bytes factory, uint8_t *room, size_t room_length, size_t *length);
+
+/* ---- check bytes */
+
+/* The check byte of a message of any length (rule: PEC). */
+uint8_t sb2_pec(struct sb2_bytes message);
+
+/* Answers 0 or 15; *accepted says whether the last byte is the PEC of those before it (rule: PEC). */
+int sb2_check_exchange(struct sb2_bytes exchange, bool *accepted);
+
+/* Answers 0 or 15; *bits is the number of bits in which the two differ (rule: PEC). */
+int sb2_compare(struct sb2_bytes a, struct sb2_bytes b, uint32_t *bits);
+
+/* ---- keys */
+
+/* A part of lent bytes. */
+struct sb2_part {
+    size_t offset;
+    size_t length;
+};
+
+/* What a key shows: both names still escaped. */
+struct sb2_key {
+    struct sb2_part maker;
+    struct sb2_part device;
+    uint16_t date;
+    uint16_t serial;
+};
+
+/* Writes a key: answers 0 with its length, or 12 (rule: Key). */
+int sb2_key_write(struct sb2_bytes maker, struct sb2_bytes device, uint16_t date, uint16_t serial, uint8_t *room,
+                  size_t room_length, size_t *length);
+
+/* Reads a key: answers 0 with its parts, or 13 with none (rule: Key). */
+int sb2_key_read(struct sb2_bytes key, struct sb2_key *parts);
+
+/* Writes the plain bytes of an escaped name: answers 0, 12 for a room under 32, 13 for no such name (rule: Key). */
+int sb2_key_unescape(struct sb2_bytes name, uint8_t *room, size_t room_length, size_t *length);
+
+/* ---- pack sheets */
+
+/* A body for one tag, or none. */
+struct sb2_body {
+    bool given;
+    struct sb2_bytes bytes;
+};
+
+/* A block name's place: a part of the service sheet or of the factory sheet. */
+struct sb2_block {
+    bool in_service;
+    struct sb2_part part;
+};
+
+/* Writes a sheet of up to four bodies, tags 20 to 23: answers 0 with its length, or 12 (rule: Pack sheet). */
+int sb2_sheet_write(const struct sb2_body bodies[4], uint8_t *room, size_t room_length, size_t *length);
+
+/* Tells whether bytes are a sheet (rule: Pack sheet). */
+bool sb2_sheet_good(struct sb2_bytes sheet);
+
+/* Finds a block name: answers 0 with its place, or 9 if a sheet is bad (rule: Pack sheet). */
+int sb2_sheet_block(struct sb2_bytes service, struct sb2_bytes factory, uint8_t tag, struct sb2_block *block);
+
+/* ---- captures */
+
+/* A walk over a lent capture: the next row, and the place of its body. */
+struct sb2_walk {
+    struct sb2_bytes capture;
+    size_t row;
+    size_t place;
+};
+
+/* One row of a capture. */
+struct sb2_row {
+    bool read;
+    struct sb2_part body;
+};
+
+/* Tells whether bytes are a capture: answers 0 or 14 (rule: Pack sheet and capture). */
+int sb2_capture_test(struct sb2_bytes capture);
+
+/* Starts a walk: answers 0, or 14 with a walk over nothing (rule: Pack sheet and capture). */
+int sb2_walk_begin(struct sb2_bytes capture, struct sb2_walk *walk);
+
+/* Takes the next row; false, and an empty row, when none is left (rule: Pack sheet and capture). */
+bool sb2_walk_next(struct sb2_walk *walk, struct sb2_row *row);
+
+#endif

@@ -1,0 +1,1006 @@
+/* Holds the second program to published facts: document 01's worked examples
+ * and tables, both packets of source document 001, the check word of CRC-8 and
+ * the values that 002 works out. Then to properties that document 01 states. */
+#include "../../second/snatchblock2.h"
+
+#include <stdio.h>
+#include <string.h>
+
+static unsigned passed, failed;
+
+static void check_at(int line, const char *what, long long got, long long wanted)
+{
+    if (got == wanted) {
+        passed++;
+        return;
+    }
+    failed++;
+    printf("line %d: %s: %lld, not %lld\n", line, what, got, wanted);
+}
+#define CHECK(got, wanted) check_at(__LINE__, #got, (long long)(got), (long long)(wanted))
+
+static struct sb2_bytes bytes(const uint8_t *at, size_t length)
+{
+    struct sb2_bytes made = {at, length};
+    return made;
+}
+#define BYTES(...) bytes((const uint8_t[]){__VA_ARGS__}, sizeof((const uint8_t[]){__VA_ARGS__}))
+
+static struct sb2_bytes text(const char *string)
+{
+    return bytes((const uint8_t *)string, strlen(string));
+}
+
+static const struct sb2_bytes nothing = {NULL, 0};
+static const uint8_t zero = 0;
+#define NO_NAMES bytes(&zero, 1)
+
+/* ---- small drivers */
+
+static const struct sb2_set_up usual = {.design_capacity = 4000,
+                                        .full_capacity = 4000,
+                                        .remaining_capacity = 2000,
+                                        .design_voltage = 14800,
+                                        .first = {.voltage = 14800}};
+
+static struct sb2_state made(struct sb2_set_up in)
+{
+    struct sb2_state state;
+    CHECK(sb2_set_up(&state, &in), 0);
+    CHECK(sb2_sound(&state), true);
+    return state;
+}
+
+/* Answer of a transaction, its room watched: nothing is written past the reply. */
+static int transact(struct sb2_state *state, bool read, struct sb2_bytes message, struct sb2_bytes service,
+                    struct sb2_bytes factory, uint8_t reply[SB2_REPLY_ROOM], size_t *length)
+{
+    uint8_t room[SB2_REPLY_ROOM + 8];
+    memset(room, 0xA5, sizeof room);
+    int answer = sb2_transact(state, read, message, service, factory, room + 4, SB2_REPLY_ROOM, length);
+    for (size_t i = 0; i < sizeof room; i++)
+        if ((i < 4 || i >= 4 + *length) && room[i] != 0xA5)
+            CHECK(room[i], 0xA5);
+    memcpy(reply, room + 4, SB2_REPLY_ROOM);
+    return answer;
+}
+
+static int answer_of(struct sb2_state *state, bool read, struct sb2_bytes message)
+{
+    uint8_t reply[SB2_REPLY_ROOM];
+    size_t length;
+    int answer = transact(state, read, message, NO_NAMES, NO_NAMES, reply, &length);
+    if (answer != 0 && answer != 10)
+        CHECK(length, 0);
+    return answer;
+}
+
+/* The word of a read, or −1 and the answer's number below it. */
+static long word(struct sb2_state *state, uint8_t command)
+{
+    uint8_t reply[SB2_REPLY_ROOM];
+    size_t length;
+    const uint8_t request[3] = {0x16, command, 0x17};
+    int answer = transact(state, true, bytes(request, 3), NO_NAMES, NO_NAMES, reply, &length);
+    if (answer != 0 && answer != 10)
+        return -1 - answer;
+    CHECK(length, 3);
+    uint8_t exchange[6] = {0x16, command, 0x17, reply[0], reply[1], reply[2]};
+    bool accepted;
+    CHECK(sb2_check_exchange(bytes(exchange, 6), &accepted), 0);
+    CHECK(accepted, true);
+    return reply[0] | (long)reply[1] << 8;
+}
+
+static int put(struct sb2_state *state, uint8_t command, unsigned value)
+{
+    uint8_t message[5] = {0x16, command, (uint8_t)value, (uint8_t)(value >> 8), 0};
+    message[4] = sb2_pec(bytes(message, 4));
+    return answer_of(state, false, bytes(message, 5));
+}
+
+/* Takes a sample; the messages' bytes go to sent, their count is given. */
+static size_t sample(struct sb2_state *state, uint16_t voltage, int16_t current, uint16_t temperature, uint32_t counter,
+                     uint8_t sent[SB2_BROADCAST_ROOM])
+{
+    struct sb2_sample taken = {voltage, current, temperature, counter};
+    uint8_t room[SB2_BROADCAST_ROOM];
+    size_t length;
+    memset(room, 0xA5, sizeof room);
+    CHECK(sb2_take_sample(state, &taken, room, sizeof room, &length), 0);
+    CHECK(length % 4, 0);
+    for (size_t i = length; i < sizeof room; i++)
+        CHECK(room[i], 0xA5);
+    CHECK(sb2_sound(state), true);
+    if (sent)
+        memcpy(sent, room, sizeof room);
+    return length / 4;
+}
+
+/* ---- document 01's twelve */
+
+static void worked_examples(void)
+{
+    uint8_t room[SB2_KEY_ROOM];
+    size_t length;
+    struct sb2_state s;
+
+    CHECK(sb2_pec(nothing), 0x00);                                             /* 1 */
+    CHECK(sb2_pec(BYTES(0x16, 0x80, 0x17, 0x4D, 0x00, 0x01, 0x00)), 0x98);     /* 2 */
+    CHECK(sb2_pec(BYTES(0x16, 0x09, 0x17, 0xD0, 0x39)), 0x7E);                 /* 3 */
+    CHECK(sb2_pec(BYTES(0x16, 0x02, 0x0A, 0x00)), 0x47);                       /* 4 */
+    CHECK(sb2_pack_date(2021, 3, 15), 0x526F);                                 /* 5 */
+    CHECK(sb2_key_write(text("A/B"), text("P7"), 0x526F, 17, room, sizeof room, &length), 0); /* 6 */
+    struct sb2_bytes key = text("A\\/B/P7/526f/0011");
+    CHECK(length, key.length);
+    CHECK(memcmp(room, key.at, key.length), 0);
+    s = made(usual);
+    CHECK(word(&s, 0x0F), 2000);
+    CHECK(put(&s, 0x04, 0x8000), 0); /* 7 */
+    CHECK(word(&s, 0x06), 3);
+    CHECK(put(&s, 0x04, 0), 0); /* 8 */
+    CHECK(word(&s, 0x06), 65535);
+    CHECK(put(&s, 0x04, 0xFFFF), 0); /* 9 */
+    CHECK(word(&s, 0x06), 65534);
+    CHECK(put(&s, 0x03, 0x8000), 0); /* 10 */
+    CHECK(word(&s, 0x0F), 2960);
+    CHECK(sb2_elapsed(4294967290u, 4), 10); /* 11 */
+    struct sb2_set_up in = usual;           /* 12 */
+    in.first.current = -5;
+    s = made(in);
+    sample(&s, 14800, 2, 0, 0, NULL);
+    CHECK(word(&s, 0x0B), 0xFFFF);
+}
+
+/* The player's example, row by row. */
+static void player_example(void)
+{
+    static const uint8_t capture[] = {0x03, 0x00, 0x05, 0x01, 0x03, 0x00, 0x05, 0x16, 0x02, 0x0A,
+                                      0x00, 0x47, 0x16, 0x09, 0x17, 0x16, 0x02, 0x0A, 0x00, 0x46};
+    static const int answers[] = {0, 0, 5};
+    struct sb2_state s = made(usual);
+    struct sb2_walk walk;
+    struct sb2_row row;
+    CHECK(sb2_walk_begin(bytes(capture, sizeof capture), &walk), 0);
+    size_t rows = 0;
+    while (sb2_walk_next(&walk, &row)) {
+        uint8_t reply[SB2_REPLY_ROOM];
+        size_t length;
+        int answer = transact(&s, row.read, bytes(capture + row.body.offset, row.body.length), NO_NAMES, NO_NAMES, reply,
+                              &length);
+        CHECK(answer, answers[rows]);
+        CHECK(length, rows == 1 ? 3 : 0);
+        if (rows == 1)
+            CHECK(memcmp(reply, "\xD0\x39\x7E", 3), 0);
+        rows++;
+    }
+    CHECK(rows, 3);
+    CHECK(word(&s, 0x16), 0x00C7);
+    CHECK(word(&s, 0x16), 0x00C0);
+}
+
+/* ---- check bytes published elsewhere */
+
+static void check_bytes(void)
+{
+    static const uint8_t packet[] = {0x16, 0xA1, 0x00, 0x01, 0x82, 0x00, 0x94, 0x4D, 0x82, 0x00, 0xB0, 0x8C,
+                                     0x82, 0x00, 0xB0, 0x8C, 0x82, 0x00, 0x99, 0xB4, 0x82, 0x00, 0xB0, 0x8C,
+                                     0x82, 0x00, 0xB0, 0x8C, 0x82, 0x00, 0xB0, 0x8C, 0x82, 0x00, 0x99, 0xAF};
+    CHECK(sizeof packet, 36);
+    CHECK(sb2_pec(bytes(packet, sizeof packet)), 0x6F);
+    CHECK(sb2_pec(BYTES(0x16, 0x80, 0x17, 0x4D, 0x00, 0x01, 0x00)), 0x98);
+    CHECK(sb2_pec(text("123456789")), 0xF4);
+
+    /* each of the 256 remainders by long division */
+    for (unsigned v = 0; v < 256; v++) {
+        unsigned rest = v << 8;
+        for (int bit = 15; bit >= 8; bit--)
+            if (rest >> bit & 1)
+                rest ^= 0x107u << (bit - 8);
+        uint8_t byte = (uint8_t)v;
+        CHECK(sb2_pec(bytes(&byte, 1)), rest);
+    }
+
+    uint8_t exchange[40];
+    memcpy(exchange, packet, sizeof packet);
+    exchange[36] = 0x6F;
+    bool accepted;
+    CHECK(sb2_check_exchange(bytes(exchange, 37), &accepted), 0);
+    CHECK(accepted, true);
+    exchange[36] ^= 0x10;
+    CHECK(sb2_check_exchange(bytes(exchange, 37), &accepted), 0);
+    CHECK(accepted, false);
+    CHECK(sb2_check_exchange(bytes(exchange, 38), &accepted), 15);
+    CHECK(accepted, false);
+    CHECK(sb2_check_exchange(bytes(exchange, 1), &accepted), 15);
+    CHECK(sb2_check_exchange(nothing, &accepted), 15);
+    CHECK(sb2_check_exchange(BYTES(0, 0), &accepted), 0);
+    CHECK(accepted, true);
+
+    uint32_t bits;
+    CHECK(sb2_compare(BYTES(0x16, 0x02, 0x0A, 0x00, 0x47), BYTES(0x16, 0x02, 0x0A, 0x00, 0x46), &bits), 0);
+    CHECK(bits, 1);
+    CHECK(sb2_compare(BYTES(0xFF, 0x00), BYTES(0x00, 0xFF), &bits), 0);
+    CHECK(bits, 16);
+    CHECK(sb2_compare(nothing, nothing, &bits), 0);
+    CHECK(bits, 0);
+    CHECK(sb2_compare(BYTES(1, 2), BYTES(1), &bits), 15);
+    CHECK(bits, 0);
+    CHECK(sb2_compare(bytes(exchange, 37), bytes(packet, 36), &bits), 15);
+    CHECK(sb2_compare(bytes(exchange, 38), bytes(exchange, 38), &bits), 15);
+    CHECK(sb2_compare(bytes(exchange, 37), bytes(exchange, 37), &bits), 0);
+
+    /* a right five-byte write with one to three bits turned is never taken */
+    uint8_t write[5] = {0x16, 0x03, 0x00, 0xE0, 0};
+    write[4] = sb2_pec(bytes(write, 4));
+    struct sb2_state before = made(usual);
+    for (unsigned i = 0; i < 40; i++)
+        for (unsigned j = i; j < 40; j++)
+            for (unsigned k = j; k < 40; k++) {
+                /* i = j = k turns one bit, j = k two */
+                uint8_t turned[5];
+                struct sb2_state after = before;
+                memcpy(turned, write, 5);
+                turned[i / 8] ^= (uint8_t)(1u << i % 8);
+                if (j != i)
+                    turned[j / 8] ^= (uint8_t)(1u << j % 8);
+                if (k != j)
+                    turned[k / 8] ^= (uint8_t)(1u << k % 8);
+                int answer = answer_of(&after, false, bytes(turned, 5));
+                CHECK(answer == 3 || answer == 5, true);
+                after.error_code = before.error_code;
+                CHECK(sb2_same(&before, &after), true);
+            }
+}
+
+/* ---- 002's values */
+
+static void specification_values(void)
+{
+    CHECK(sb2_pack_specification(1, 0, 0, 1), 4112); /* 5.1.25, the example */
+    CHECK(sb2_pack_specification(1, 0, 0, 1), 0x1010);
+    CHECK(sb2_pack_date(1980, 1, 1), 0x0021); /* 5.1.26, the formula at its ends */
+    CHECK(sb2_pack_date(2107, 12, 31), 0xFF9F);
+
+    struct sb2_state s = made(usual);
+    CHECK(word(&s, 0x1A), 0x0031); /* 1.1 with PEC, no scaling */
+    /* 4.4.1, values preset */
+    CHECK(word(&s, 0x01), 400);
+    CHECK(word(&s, 0x02), 10);
+    CHECK(word(&s, 0x03), 0);
+    CHECK(word(&s, 0x04), 0);
+    CHECK(word(&s, 0x16) & 0x80, 0x80);
+    /* 5.1.5, the table of AtRate */
+    CHECK(word(&s, 0x05), 65535);
+    CHECK(word(&s, 0x06), 65535);
+    CHECK(word(&s, 0x07) != 0, true);
+    CHECK(put(&s, 0x04, 1000), 0);
+    CHECK(word(&s, 0x05), 120);
+    CHECK(word(&s, 0x06), 65535);
+    CHECK(word(&s, 0x07) != 0, true);
+    CHECK(put(&s, 0x04, (unsigned)-1000 & 0xFFFF), 0);
+    CHECK(word(&s, 0x05), 65535);
+    CHECK(word(&s, 0x06), 120);
+    CHECK(word(&s, 0x07) != 0, true);
+    /* 5.1.6: over-range and overflow in power mode */
+    CHECK(put(&s, 0x03, 0x8000), 0);
+    CHECK(answer_of(&s, true, BYTES(0x16, 0x05, 0x17)), 10);
+    CHECK(word(&s, 0x16) & 0xF, 5);
+
+    /* the names that 5.1.28 to 5.1.30 give, as blocks: count and characters */
+    struct sb2_body bodies[4] = {
+        {true, text("MyBattCo")}, {true, text("MBC101")}, {true, text("NiMH")}, {false, nothing}};
+    uint8_t sheet[SB2_SHEET_ROOM];
+    size_t sheet_length;
+    CHECK(sb2_sheet_write(bodies, sheet, sizeof sheet, &sheet_length), 0);
+    for (unsigned i = 0; i < 4; i++) {
+        uint8_t reply[SB2_REPLY_ROOM];
+        size_t length;
+        const uint8_t request[3] = {0x16, (uint8_t)(0x20 + i), 0x17};
+        CHECK(transact(&s, true, bytes(request, 3), NO_NAMES, bytes(sheet, sheet_length), reply, &length), 0);
+        CHECK(length, bodies[i].bytes.length + 2);
+        CHECK(reply[0], bodies[i].bytes.length);
+        if (bodies[i].given)
+            CHECK(memcmp(reply + 1, bodies[i].bytes.at, bodies[i].bytes.length), 0);
+    }
+
+    /* appendix A and C: each command's row and the codes */
+    for (unsigned command = 0; command < 256; command++) {
+        bool writable = command <= 0x04;
+        bool known = command <= 0x1C || (command >= 0x20 && command <= 0x23);
+        bool optional = command == 0x2F || (command >= 0x3C && command <= 0x3F);
+        struct sb2_state t = made(usual);
+        const uint8_t read[3] = {0x16, (uint8_t)command, 0x17};
+        const uint8_t write[4] = {0x16, (uint8_t)command, 0, 0};
+        CHECK(answer_of(&t, true, bytes(read, 3)), known ? 0 : optional ? 7 : 6);
+        CHECK(word(&t, 0x16) & 0xF, known ? 0 : optional ? 3 : 2);
+        CHECK(answer_of(&t, false, bytes(write, 4)), writable ? 0 : known ? 8 : optional ? 7 : 6);
+        CHECK(word(&t, 0x16) & 0xF, writable ? 0 : known ? 4 : optional ? 3 : 2);
+    }
+}
+
+/* ---- document 01, answer numbers and their order */
+
+static void answers_in_order(void)
+{
+    struct sb2_state s = made(usual);
+    uint8_t room[64];
+    size_t length;
+    struct sb2_state none;
+    memset(&none, 0, sizeof none);
+    CHECK(sb2_sound(&none), false);
+    struct sb2_state before = none;
+    memset(room, 0xA5, sizeof room);
+    CHECK(sb2_transact(&none, true, nothing, nothing, nothing, room, 0, &length), 1);
+    CHECK(sb2_same(&before, &none), true);
+    before = s;
+    CHECK(sb2_transact(&s, true, nothing, nothing, nothing, room, 33, &length), 2);
+    CHECK(sb2_transact(&s, true, BYTES(0x16, 0x20, 0x17), nothing, nothing, room, 34, &length), 9);
+    CHECK(s.error_code, 7);
+    CHECK(sb2_transact(&s, true, BYTES(0x16, 0x20, 0x17), NO_NAMES, nothing, room, 34, &length), 9);
+    CHECK(sb2_transact(&s, true, BYTES(0x16, 0x20, 0x17), nothing, NO_NAMES, room, 34, &length), 9);
+    CHECK(sb2_transact(&s, false, BYTES(0x16, 0x20, 0, 0), nothing, nothing, room, 34, &length), 8);
+    CHECK(room[0], 0xA5);
+    s = before;
+    CHECK(answer_of(&s, true, nothing), 3);
+    CHECK(answer_of(&s, false, BYTES(0x17, 0x00, 0x17)), 3);
+    CHECK(sb2_same(&before, &s), true);
+    CHECK(answer_of(&s, true, BYTES(0x16, 0xFF, 0x16)), 4);
+    CHECK(s.error_code, 6);
+    CHECK(answer_of(&s, true, BYTES(0x17)), 3); /* leaves the code */
+    CHECK(s.error_code, 6);
+    CHECK(answer_of(&s, false, BYTES(0x16, 0xFF, 0x17)), 4);
+    CHECK(answer_of(&s, true, BYTES(0x16, 0x00, 0x00, 0x00)), 4);
+    CHECK(answer_of(&s, true, BYTES(0x16, 0x00, 0x17, 0x00)), 4);
+    CHECK(answer_of(&s, false, BYTES(0x16)), 4);
+    CHECK(answer_of(&s, false, BYTES(0x16, 0xFF, 0, 0, 0)), 5);
+    CHECK(s.error_code, 7);
+    CHECK(answer_of(&s, false, BYTES(0x16, 0x02, 0x0A, 0x00, 0x47, 0x00)), 4);
+    CHECK(put(&s, 0x24, 0), 6);
+    CHECK(put(&s, 0x2F, 0), 7);
+    CHECK(put(&s, 0x1C, 0), 8);
+
+    struct sb2_set_up in = usual;
+    in.design_capacity = 0;
+    CHECK(sb2_set_up(&s, &in), 11);
+    CHECK(sb2_same(&s, &none), true);
+    in = usual;
+    in.full_capacity = 0;
+    in.remaining_capacity = 0;
+    CHECK(sb2_set_up(&s, &in), 11);
+    in = usual;
+    in.design_voltage = 0;
+    CHECK(sb2_set_up(&s, &in), 11);
+    in = usual;
+    in.remaining_capacity = 4001;
+    CHECK(sb2_set_up(&s, &in), 11);
+    CHECK(sb2_same(&s, &none), true);
+    in.remaining_capacity = 4000;
+    CHECK(sb2_set_up(&s, &in), 0);
+
+    /* soundness, each bound from both sides */
+#define SOUND(change, wanted)          \
+    do {                               \
+        struct sb2_state t = made(usual); \
+        change;                        \
+        CHECK(sb2_sound(&t), wanted);  \
+    } while (0)
+    SOUND(t.tank.charge = UINT64_C(4000) * 3600000, true);
+    SOUND(t.tank.charge = UINT64_C(4000) * 3600000 + 1, false);
+    SOUND(t.tank.charge = UINT64_MAX, false);
+    SOUND(t.kept.count = 0, false);
+    SOUND(t.kept.count = 60, true);
+    SOUND(t.kept.count = 61, false);
+    SOUND((t.timers.hold = 60000, t.host.alarm_mode = true), true);
+    SOUND((t.timers.hold = 60001, t.host.alarm_mode = true), false);
+    SOUND(t.timers.hold = 1, false);
+    SOUND(t.host.alarm_mode = true, false);
+    SOUND(t.timers.alarm = 10001, false);
+    SOUND(t.timers.charger = 29999, true);
+    SOUND(t.timers.charger = 30000, false);
+    SOUND((t.timers.charger = 1, t.host.charger_mode = true), false);
+    SOUND(t.host.charger_mode = true, true);
+    SOUND(t.error_code = 7, true);
+    SOUND(t.error_code = 8, false);
+}
+
+/* ---- document 01, registers on other packs */
+
+static void registers(void)
+{
+    struct sb2_set_up in = usual;
+    struct sb2_state s;
+
+    /* the largest pack: nothing overflows, caps hold */
+    in.design_capacity = in.full_capacity = in.remaining_capacity = 65535;
+    in.design_voltage = 65535;
+    in.first.voltage = 65535;
+    in.first.current = -32768;
+    in.discharge_limit = 65535;
+    s = made(in);
+    CHECK(word(&s, 0x0F), 65535);
+    CHECK(word(&s, 0x0D), 100);
+    CHECK(word(&s, 0x0E), 100);
+    CHECK(word(&s, 0x11), 119);
+    CHECK(word(&s, 0x12), 119);
+    CHECK(word(&s, 0x13), 65535);
+    CHECK(put(&s, 0x03, 0x8000), 0);
+    CHECK(word(&s, 0x0F), 65535);
+    CHECK(word(&s, 0x10), 65535);
+    CHECK(word(&s, 0x18), 65535);
+    CHECK(word(&s, 0x11), 18); /* 60 × 65,535 ÷ floor(32,768 × 65,535 ÷ 10,000) */
+    CHECK(put(&s, 0x04, 0x8000), 0);
+    CHECK(word(&s, 0x07), 1);
+    CHECK(word(&s, 0x06), 119);
+
+    /* more than the design: 0E above 100, and its cap */
+    in = usual;
+    in.design_capacity = 1;
+    in.full_capacity = in.remaining_capacity = 65535;
+    s = made(in);
+    CHECK(word(&s, 0x0E), 65535);
+    CHECK(word(&s, 0x0D), 100);
+    CHECK(word(&s, 0x01), 0);
+    in.design_capacity = 65535;
+    in.remaining_capacity = 0;
+    s = made(in);
+    CHECK(word(&s, 0x0E), 0);
+    CHECK(word(&s, 0x16), 0x02D0); /* capacity alarm, initialized, not charging, empty */
+
+    /* AtRateOK at its edge, in mA and in 10 mW */
+    in = usual;
+    in.full_capacity = in.design_capacity = 40;
+    in.remaining_capacity = 40; /* 144,000,000 mA·ms: 14,400 mA for 10 s */
+    in.design_voltage = 7000;
+    s = made(in);
+    CHECK(put(&s, 0x04, (unsigned)-14400 & 0xFFFF), 0);
+    CHECK(word(&s, 0x07), 1);
+    CHECK(put(&s, 0x04, (unsigned)-14401 & 0xFFFF), 0);
+    CHECK(word(&s, 0x07), 0);
+    CHECK(put(&s, 0x03, 0x8000), 0); /* 10 mW: 14,400 mA at 7 V are 10,080 */
+    CHECK(put(&s, 0x04, (unsigned)-10080 & 0xFFFF), 0);
+    CHECK(word(&s, 0x07), 1);
+    CHECK(put(&s, 0x04, (unsigned)-10081 & 0xFFFF), 0);
+    CHECK(word(&s, 0x07), 0);
+    in.first.current = -1;
+    s = made(in);
+    CHECK(put(&s, 0x04, (unsigned)-14399 & 0xFFFF), 0);
+    CHECK(word(&s, 0x07), 1);
+    CHECK(put(&s, 0x04, (unsigned)-14400 & 0xFFFF), 0);
+    CHECK(word(&s, 0x07), 0);
+    in.first.current = 20000; /* a charge neither helps nor harms */
+    s = made(in);
+    CHECK(put(&s, 0x04, (unsigned)-14400 & 0xFFFF), 0);
+    CHECK(word(&s, 0x07), 1);
+    CHECK(put(&s, 0x04, (unsigned)-14401 & 0xFFFF), 0);
+    CHECK(word(&s, 0x07), 0);
+
+    in.first.current = 0; /* 10 mW at 7 V for 10 s: 14,285 and five sevenths mA·ms */
+    s = made(in);
+    CHECK(put(&s, 0x03, 0x8000), 0);
+    CHECK(put(&s, 0x04, 0xFFFF), 0);
+    s.tank.charge = 14285;
+    CHECK(word(&s, 0x07), 0);
+    s.tank.charge = 14286;
+    CHECK(word(&s, 0x07), 1);
+
+    /* power mode: a rate that rounds to 0 */
+    in = usual;
+    in.first.voltage = 4999;
+    in.first.current = -2;
+    s = made(in);
+    CHECK(put(&s, 0x03, 0x8000), 0);
+    CHECK(word(&s, 0x11), 65534);
+    CHECK(word(&s, 0x12), 65534);
+    CHECK(word(&s, 0x13), 65535);
+    in.first.current = 2;
+    s = made(in);
+    CHECK(put(&s, 0x03, 0x8000), 0);
+    CHECK(word(&s, 0x11), 65535);
+    CHECK(word(&s, 0x12), 65535);
+    CHECK(word(&s, 0x13), 65534);
+
+    /* power mode: capacities at the design voltage, rates at the latest */
+    in = usual;
+    in.first.voltage = 10000;
+    in.first.current = -1000;
+    s = made(in);
+    CHECK(put(&s, 0x03, 0x8000), 0);
+    CHECK(word(&s, 0x0F), 2960);
+    CHECK(word(&s, 0x10), 5920);
+    CHECK(word(&s, 0x18), 5920);
+    CHECK(word(&s, 0x11), 177);
+    CHECK(word(&s, 0x12), 177);
+    CHECK(put(&s, 0x04, (unsigned)-1000 & 0xFFFF), 0);
+    CHECK(word(&s, 0x06), 177);
+    CHECK(put(&s, 0x04, 1000), 0);
+    CHECK(word(&s, 0x05), 65535);
+    in.first.current = 1000;
+    s = made(in);
+    CHECK(put(&s, 0x03, 0x8000), 0);
+    CHECK(word(&s, 0x13), 177);
+    in.first.current = 0;
+    s = made(in);
+    CHECK(word(&s, 0x11), 65535);
+    CHECK(word(&s, 0x12), 65535);
+    CHECK(word(&s, 0x13), 65535);
+
+    /* present current in 11, the mean in 12 and 13 and in bit 8 */
+    in = usual;
+    in.first.current = -1000;
+    s = made(in);
+    CHECK(word(&s, 0x12), 120);
+    sample(&s, 14800, -3000, 0, 0, NULL);
+    CHECK(word(&s, 0x11), 40);
+    CHECK(word(&s, 0x12), 60);
+    CHECK(put(&s, 0x02, 60), 0);
+    CHECK(word(&s, 0x16), 0x00C0);
+    CHECK(put(&s, 0x02, 61), 0);
+    CHECK(word(&s, 0x16), 0x01C0);
+    in.first.current = 1000;
+    s = made(in);
+    sample(&s, 14800, 3000, 0, 0, NULL);
+    CHECK(word(&s, 0x13), 60);
+
+    /* full and design apart; limits met exactly */
+    in = usual;
+    in.full_capacity = 2000;
+    in.remaining_capacity = 1000;
+    s = made(in);
+    CHECK(word(&s, 0x0D), 50);
+    CHECK(word(&s, 0x0E), 25);
+    CHECK(word(&s, 0x01), 400);
+    CHECK(put(&s, 0x01, 1000), 0);
+    CHECK(word(&s, 0x16), 0x00C0);
+    CHECK(put(&s, 0x01, 1001), 0);
+    CHECK(word(&s, 0x16), 0x02C0);
+    CHECK(put(&s, 0x01, 0), 0);
+    CHECK(put(&s, 0x02, 0), 0);
+    CHECK(word(&s, 0x16), 0x00C0);
+
+    /* BatteryMode keeps three bits; a mode change converts nothing */
+    s = made(usual);
+    CHECK(put(&s, 0x03, 0xFFFF), 0);
+    CHECK(word(&s, 0x03), 0xE000);
+    CHECK(word(&s, 0x01), 400);
+    CHECK(put(&s, 0x00, 0xBEEF), 0);
+    CHECK(word(&s, 0x00), 0xBEEF);
+
+    /* alarms on charging: full, and hot */
+    in = usual;
+    in.remaining_capacity = 4000;
+    in.charging_current = 1500;
+    in.charging_voltage = 16800;
+    in.first.current = 100;
+    s = made(in);
+    CHECK(word(&s, 0x16), 0x40A0);
+    CHECK(word(&s, 0x14), 0);
+    CHECK(word(&s, 0x15), 16800);
+    in.remaining_capacity = 3999;
+    s = made(in);
+    CHECK(word(&s, 0x16), 0x0080);
+    CHECK(word(&s, 0x14), 1500);
+    in.first.temperature = 3231;
+    in.temperature_limit = 3231;
+    s = made(in);
+    CHECK(word(&s, 0x16), 0x0080);
+    in.first.temperature = 3232;
+    s = made(in);
+    CHECK(word(&s, 0x16), 0x5080);
+    in.first.current = 0;
+    s = made(in);
+    CHECK(word(&s, 0x16), 0x10C0);
+    CHECK(word(&s, 0x14), 1500);
+    in.first.temperature = 0;
+    in.first.current = -1;
+    in.discharge_limit = 14800;
+    s = made(in);
+    CHECK(word(&s, 0x16), 0x00C0);
+    in.discharge_limit = 14801;
+    s = made(in);
+    CHECK(word(&s, 0x16), 0x08C0);
+    CHECK(put(&s, 0x02, 65535), 0);
+    CHECK(word(&s, 0x12), 65534);
+    CHECK(word(&s, 0x16), 0x09C0);
+}
+
+/* ---- document 01, clock and broadcasts */
+
+static void clock_and_broadcasts(void)
+{
+    uint8_t sent[SB2_BROADCAST_ROOM];
+    uint8_t room[SB2_BROADCAST_ROOM];
+    size_t length;
+    struct sb2_set_up in = usual;
+    struct sb2_state s;
+
+    s = made(usual);
+    struct sb2_sample one = {14800, 0, 0, 1000};
+    struct sb2_state before = s;
+    CHECK(sb2_take_sample(&s, &one, room, 15, &length), 2);
+    CHECK(length, 0);
+    CHECK(sb2_same(&before, &s), true);
+    memset(&s, 0, sizeof s);
+    CHECK(sb2_take_sample(&s, &one, room, 0, &length), 1);
+
+    /* charger words first at 30,000 ms, then each 30,000, missed ones dropped */
+    in.charging_current = 0x1234;
+    in.charging_voltage = 0x5678;
+    in.first.counter = 4294967290u;
+    s = made(in);
+    CHECK(sample(&s, 14800, 0, 0, 4294967290u + 29999u, sent), 0);
+    CHECK(sample(&s, 14800, 0, 0, 4294967290u + 30000u, sent), 2);
+    CHECK(memcmp(sent, "\x12\x14\x34\x12\x12\x15\x78\x56", 8), 0);
+    CHECK(sample(&s, 14800, 0, 0, 4294967290u + 100000u, sent), 2);
+    CHECK(sample(&s, 14800, 0, 0, 4294967290u + 100001u, sent), 0);
+    CHECK(s.timers.charger, 1);
+    CHECK(put(&s, 0x03, 0x4000), 0);
+    CHECK(s.timers.charger, 0);
+    CHECK(sample(&s, 14800, 0, 0, 4294967290u + 200001u, sent), 0);
+    CHECK(put(&s, 0x03, 0x0000), 0);
+    CHECK(sample(&s, 14800, 0, 0, 4294967290u + 230000u, sent), 0);
+    CHECK(sample(&s, 14800, 0, 0, 4294967290u + 230001u, sent), 2);
+
+    /* an alarm at once, then each 10,000 ms; the code in the word is all ones */
+    in = usual;
+    in.remaining_capacity = 399;
+    s = made(in);
+    CHECK(sample(&s, 14800, 0, 0, 0, sent), 1);
+    CHECK(memcmp(sent, "\x10\x16\xCF\x02", 4), 0);
+    CHECK(sample(&s, 14800, 0, 0, 9999, sent), 0);
+    CHECK(sample(&s, 14800, 0, 0, 10000, sent), 1);
+    /* both alarms and both words, in order */
+    CHECK(sample(&s, 14800, 1, 1, 40000, sent), 4);
+    CHECK(memcmp(sent, "\x10\x16\x8F\x52\x12\x16\x8F\x52\x12\x14\x00\x00\x12\x15\x00\x00", 16), 0);
+
+    /* the hold: 60,000 ms from the last sample, then the bit clears and the alarm goes */
+    CHECK(put(&s, 0x03, 0x2000), 0);
+    CHECK(s.timers.hold, 60000);
+    CHECK(sample(&s, 14800, 0, 0, 60000, sent), 0);
+    CHECK(sample(&s, 14800, 0, 0, 99999, sent), 2); /* charger words alone */
+    CHECK(word(&s, 0x03), 0x2000);
+    CHECK(sample(&s, 14800, 0, 0, 100000, sent), 1);
+    CHECK(word(&s, 0x03), 0);
+    CHECK(put(&s, 0x03, 0x2000), 0);
+    CHECK(put(&s, 0x03, 0x0000), 0);
+    CHECK(s.timers.hold, 0);
+    CHECK(sample(&s, 14800, 0, 0, 110000, sent), 1);
+
+    /* each alarm bit alone: 11 and 8 for the host, 12 for the charger too; none without a bit */
+    in = usual;
+    in.first.current = -1;
+    in.discharge_limit = 14801;
+    s = made(in);
+    CHECK(sample(&s, 14800, -1, 0, 0, sent), 1);
+    CHECK(memcmp(sent, "\x10\x16\xCF\x08", 4), 0);
+    in.discharge_limit = 0;
+    s = made(in);
+    CHECK(put(&s, 0x02, 65535), 0);
+    CHECK(sample(&s, 14800, -1, 0, 0, sent), 1);
+    CHECK(memcmp(sent, "\x10\x16\xCF\x01", 4), 0);
+    in.first.current = 0;
+    s = made(in);
+    CHECK(sample(&s, 14800, 0, 1, 0, sent), 2);
+    CHECK(memcmp(sent, "\x10\x16\xCF\x10\x12\x16\xCF\x10", 8), 0);
+    s = made(in);
+    CHECK(sample(&s, 14800, 0, 0, 20000, sent), 0);
+    /* a mode write that leaves CHARGER_MODE clear leaves its timer */
+    CHECK(put(&s, 0x03, 0xA000), 0);
+    CHECK(s.timers.charger, 20000);
+    CHECK(sample(&s, 14800, 0, 0, 30000, sent), 2);
+
+    /* charge, held at 0 and at full; bit 4 */
+    in = usual;
+    in.full_capacity = in.design_capacity = 100;
+    in.remaining_capacity = 1;
+    s = made(in);
+    CHECK(put(&s, 0x16, 0), 8); /* samples leave the code */
+    sample(&s, 14800, -3600, 0, 999, NULL);
+    CHECK(s.error_code, 4);
+    CHECK(s.tank.charge, 3600);
+    CHECK(s.tank.fully_discharged, false);
+    sample(&s, 14800, -3600, 0, 1000, NULL);
+    CHECK(s.tank.charge, 0);
+    CHECK(s.tank.fully_discharged, true);
+    sample(&s, 14800, 1000, 0, 1000 + 72000 - 1, NULL);
+    CHECK(word(&s, 0x0D), 19);
+    CHECK(word(&s, 0x16) & 0x10, 0x10);
+    sample(&s, 14800, 1000, 0, 1000 + 72000, NULL);
+    CHECK(word(&s, 0x0D), 20);
+    CHECK(word(&s, 0x16) & 0x10, 0);
+    sample(&s, 14800, -32768, 0, 999 + 72000, NULL); /* 2^32 − 1 ms */
+    CHECK(s.tank.charge, 0);
+    sample(&s, 14800, 32767, 0, 998 + 72000, NULL);
+    CHECK(s.tank.charge, 360000000);
+    CHECK(word(&s, 0x0D), 100);
+
+    /* the mean: over what there is, then over the last 60 */
+    in = usual;
+    in.first.current = 32767;
+    s = made(in);
+    for (int i = 0; i < 59; i++)
+        sample(&s, 14800, -7, 0, 0, NULL);
+    CHECK(word(&s, 0x0B), (32767 - 59 * 7) / 60);
+    sample(&s, 14800, -8, 0, 0, NULL);
+    CHECK(s.kept.count, 60);
+    CHECK(word(&s, 0x0B), 0xFFF9);
+}
+
+/* ---- document 01, sheets, captures and keys */
+
+static void sheets(void)
+{
+    uint8_t a[SB2_SHEET_ROOM], b[SB2_SHEET_ROOM], full[33];
+    size_t a_length, b_length, length;
+    struct sb2_block block;
+    memset(full, 'x', sizeof full);
+    struct sb2_body factory[4] = {
+        {true, text("MAKER")}, {true, bytes(full, 32)}, {false, nothing}, {true, text("data")}};
+    struct sb2_body service[4] = {{false, nothing}, {true, nothing}, {false, nothing}, {true, text("new")}};
+    CHECK(sb2_sheet_write(factory, a, sizeof a, &a_length), 0);
+    CHECK(a_length, 13 + 5 + 32 + 4);
+    CHECK(sb2_sheet_write(service, b, sizeof b, &b_length), 0);
+    CHECK(b_length, 9 + 3);
+    CHECK(memcmp(b, "\x02\x21\x00\x09\x00\x23\x03\x09\x00new", 12), 0);
+    CHECK(sb2_sheet_good(bytes(a, a_length)), true);
+    CHECK(sb2_sheet_good(bytes(b, b_length)), true);
+    CHECK(sb2_sheet_good(NO_NAMES), true);
+    CHECK(sb2_sheet_good(nothing), false);
+    CHECK(sb2_sheet_good(BYTES(0, 0)), false);
+    CHECK(sb2_sheet_good(bytes(a, a_length - 1)), false);
+
+    CHECK(sb2_sheet_block(bytes(b, b_length), bytes(a, a_length), 0x20, &block), 0);
+    CHECK(block.in_service, false);
+    CHECK(block.part.offset, 13);
+    CHECK(block.part.length, 5);
+    CHECK(sb2_sheet_block(bytes(b, b_length), bytes(a, a_length), 0x21, &block), 0);
+    CHECK(block.in_service, true); /* listed with no bytes, so it counts */
+    CHECK(block.part.length, 0);
+    CHECK(sb2_sheet_block(bytes(b, b_length), bytes(a, a_length), 0x22, &block), 0);
+    CHECK(block.in_service, false);
+    CHECK(block.part.length, 0);
+    CHECK(sb2_sheet_block(bytes(b, b_length), bytes(a, a_length), 0x23, &block), 0);
+    CHECK(block.in_service, true);
+    CHECK(block.part.offset, 9);
+    CHECK(sb2_sheet_block(bytes(b, b_length - 1), bytes(a, a_length), 0x20, &block), 9);
+    CHECK(block.part.length, 0);
+
+    struct sb2_body most[4] = {
+        {true, bytes(full, 32)}, {true, bytes(full, 32)}, {true, bytes(full, 32)}, {true, bytes(full, 32)}};
+    CHECK(sb2_sheet_write(most, a, 145, &length), 0);
+    CHECK(length, 145);
+    CHECK(sb2_sheet_good(bytes(a, 145)), true);
+    CHECK(sb2_sheet_write(most, a, 144, &length), 12);
+    CHECK(length, 0);
+    most[2].bytes = bytes(full, 33);
+    CHECK(sb2_sheet_write(most, a, 145, &length), 12);
+    most[2].given = false;
+    CHECK(sb2_sheet_write(most, a, 145, &length), 0);
+
+    /* rows that break the form */
+    uint8_t long_body[5 + 33] = {1, 0x20, 33, 5, 0};
+    CHECK(sb2_sheet_good(bytes(long_body, 5 + 33)), false);
+    long_body[2] = 32;
+    CHECK(sb2_sheet_good(bytes(long_body, 5 + 32)), true);
+    CHECK(sb2_sheet_good(BYTES(1, 0x20, 1, 5, 0, 'x')), true);
+    CHECK(sb2_sheet_good(BYTES(1, 0x24, 1, 5, 0, 'x')), false);
+    CHECK(sb2_sheet_good(BYTES(1, 0x1F, 1, 5, 0, 'x')), false);
+    CHECK(sb2_sheet_good(BYTES(1, 0x20, 1, 6, 0, 'x')), false);
+    CHECK(sb2_sheet_good(BYTES(1, 0x20, 1, 5, 1, 'x')), false);
+    CHECK(sb2_sheet_good(BYTES(2, 0x20, 0, 9, 0, 0x20, 0, 9, 0)), false);
+    CHECK(sb2_sheet_good(BYTES(2, 0x21, 0, 9, 0, 0x20, 0, 9, 0)), false);
+    CHECK(sb2_sheet_good(BYTES(2, 0x20, 0, 9, 0, 0x21, 0, 9, 0)), true);
+    CHECK(sb2_sheet_good(BYTES(5, 0x20, 0, 21, 0, 0x21, 0, 21, 0, 0x22, 0, 21, 0, 0x23, 0, 21, 0, 0x24, 0, 21, 0)), false);
+}
+
+static void captures(void)
+{
+    struct sb2_walk walk;
+    struct sb2_row row;
+    CHECK(sb2_capture_test(nothing), 14);
+    CHECK(sb2_capture_test(BYTES(0)), 0);
+    CHECK(sb2_capture_test(BYTES(0, 0)), 14);
+    CHECK(sb2_capture_test(BYTES(1)), 14);
+    CHECK(sb2_capture_test(BYTES(1, 0)), 14);
+    CHECK(sb2_capture_test(BYTES(1, 0, 0)), 0);
+    CHECK(sb2_capture_test(BYTES(1, 2, 0)), 14);
+    CHECK(sb2_capture_test(BYTES(1, 1, 1)), 14);
+    CHECK(sb2_capture_test(BYTES(1, 1, 1, 7)), 0);
+    CHECK(sb2_capture_test(BYTES(1, 1, 1, 7, 7)), 14);
+    uint8_t longest[SB2_CAPTURE_MOST];
+    memset(longest, 0, sizeof longest);
+    longest[0] = 255;
+    for (size_t i = 0; i < 255; i++)
+        longest[2 + 2 * i] = 37;
+    CHECK(sb2_capture_test(bytes(longest, sizeof longest)), 0);
+    CHECK(sb2_capture_test(bytes(longest, sizeof longest - 1)), 14);
+    longest[2] = 38;
+    CHECK(sb2_capture_test(bytes(longest, sizeof longest)), 14);
+    uint8_t long_row[3 + 38] = {1, 0, 38};
+    CHECK(sb2_capture_test(bytes(long_row, 3 + 38)), 14);
+    long_row[2] = 37;
+    CHECK(sb2_capture_test(bytes(long_row, 3 + 37)), 0);
+    CHECK(sb2_walk_begin(nothing, &walk), 14);
+    CHECK(sb2_walk_next(&walk, &row), false);
+    CHECK(sb2_walk_begin(BYTES(0), &walk), 0);
+    CHECK(sb2_walk_next(&walk, &row), false);
+}
+
+static void keys(void)
+{
+    uint8_t room[SB2_KEY_ROOM], name[32], names[33];
+    size_t length;
+    struct sb2_key parts;
+    CHECK(sb2_key_read(text("A\\/B/P7/526f/0011"), &parts), 0);
+    CHECK(parts.maker.offset, 0);
+    CHECK(parts.maker.length, 4);
+    CHECK(parts.device.offset, 5);
+    CHECK(parts.device.length, 2);
+    CHECK(parts.date, 0x526F);
+    CHECK(parts.serial, 17);
+    CHECK(sb2_key_unescape(text("A\\/B"), name, 32, &length), 0);
+    CHECK(length, 3);
+    CHECK(memcmp(name, "A/B", 3), 0);
+    CHECK(sb2_key_unescape(text("A/B"), name, 32, &length), 13);
+    CHECK(sb2_key_unescape(text("A\\B"), name, 32, &length), 13);
+    CHECK(sb2_key_unescape(text("A\\"), name, 32, &length), 13);
+    CHECK(sb2_key_unescape(text("A"), name, 31, &length), 12);
+    CHECK(sb2_key_read(text("//0000/0000"), &parts), 0);
+    CHECK(sb2_key_read(text("A\\xB/P7/526f/0011"), &parts), 13);
+    CHECK(parts.date, 0);
+    CHECK(sb2_key_read(text("A/P7/526F/0011"), &parts), 13);
+    CHECK(sb2_key_read(text("A/P7/526f/0011/"), &parts), 13);
+    CHECK(sb2_key_read(text("A/P7/526f/001"), &parts), 13);
+    CHECK(sb2_key_read(text("A/P7/526f"), &parts), 13);
+    CHECK(sb2_key_read(text("A/P7\\/526f/0011"), &parts), 13);
+    CHECK(sb2_key_read(text("A"), &parts), 13);
+    CHECK(sb2_key_read(nothing, &parts), 13);
+
+    /* the request's two packs */
+    uint8_t other[SB2_KEY_ROOM];
+    size_t other_length;
+    CHECK(sb2_key_write(text("HAZEL"), text("K-12"), 1, 2, room, sizeof room, &length), 0);
+    CHECK(sb2_key_write(text("HAZEL-K"), text("12"), 1, 2, other, sizeof other, &other_length), 0);
+    CHECK(length == other_length && memcmp(room, other, length) == 0, false);
+
+    /* the longest key, and one byte more */
+    memset(names, '\\', sizeof names);
+    CHECK(sb2_key_write(bytes(names, 32), bytes(names, 32), 0xFFFF, 0xABCD, room, 139, &length), 0);
+    CHECK(length, 139);
+    CHECK(sb2_key_read(bytes(room, 139), &parts), 0);
+    CHECK(parts.maker.length, 64);
+    CHECK(parts.serial, 0xABCD);
+    CHECK(sb2_key_unescape(bytes(room, 64), name, 32, &length), 0);
+    CHECK(length, 32);
+    CHECK(memcmp(name, names, 32), 0);
+    CHECK(sb2_key_write(bytes(names, 32), bytes(names, 32), 0, 0, room, 138, &length), 12);
+    CHECK(sb2_key_write(bytes(names, 33), nothing, 0, 0, room, 139, &length), 12);
+    CHECK(sb2_key_write(nothing, bytes(names, 33), 0, 0, room, 139, &length), 12);
+    CHECK(length, 0);
+    CHECK(sb2_key_read(text("123456789012345678901234567890123/P/0000/0000"), &parts), 13);
+    CHECK(sb2_key_read(text("12345678901234567890123456789012/P/0000/0000"), &parts), 0);
+}
+
+/* ---- document 01's promises on long random work */
+
+static uint64_t chance = 1;
+
+static uint32_t draw(void)
+{
+    chance = chance * UINT64_C(6364136223846793005) + UINT64_C(1442695040888963407);
+    return (uint32_t)(chance >> 32);
+}
+
+/* A word, often at an edge. */
+static uint16_t draw_word(void)
+{
+    static const uint16_t edges[] = {0, 1, 2, 10, 0x16, 100, 0x7FFF, 0x8000, 0xE000, 0xFFFE, 0xFFFF};
+    return draw() % 3 ? (uint16_t)draw() : edges[draw() % (sizeof edges / sizeof *edges)];
+}
+
+static struct sb2_sample draw_sample(uint32_t counter)
+{
+    static const uint32_t steps[] = {0, 1, 999, 1000, 1001, 9999, 10000, 30000, 60000, 3600000, 0xFFFFFFFF};
+    struct sb2_sample made = {draw_word(), 0, draw_word(), 0};
+    uint16_t current = draw_word();
+    memcpy(&made.current, &current, sizeof current);
+    made.counter = counter + (draw() % 4 ? steps[draw() % (sizeof steps / sizeof *steps)] : draw());
+    return made;
+}
+
+static void long_work(void)
+{
+    uint8_t sheet[SB2_SHEET_ROOM];
+    size_t sheet_length;
+    struct sb2_body bodies[4] = {{true, text("HAZEL")}, {false, nothing}, {true, nothing}, {true, text("K-12")}};
+    CHECK(sb2_sheet_write(bodies, sheet, sizeof sheet, &sheet_length), 0);
+    unsigned long broken = 0, unsound = 0;
+    unsigned long answers[16] = {0};
+    for (unsigned round = 0; round < 2000; round++) {
+        struct sb2_state s;
+        struct sb2_set_up in = {.design_capacity = draw_word(), .full_capacity = draw_word(),
+                                .remaining_capacity = draw_word(), .design_voltage = draw_word(),
+                                .charging_current = draw_word(), .charging_voltage = draw_word(),
+                                .temperature_limit = draw_word(), .discharge_limit = draw_word(),
+                                .first = draw_sample(draw())};
+        int answer = sb2_set_up(&s, &in);
+        answers[answer]++;
+        broken += sb2_sound(&s) != (answer == 0);
+        if (draw() % 8 == 0) /* any state at all */
+            s.kept.count = draw() % 70;
+        if (draw() % 8 == 0)
+            s.error_code = draw() % 12;
+        if (draw() % 8 == 0)
+            s.timers.hold = draw() % 70000;
+        bool sound = sb2_sound(&s);
+        unsound += !sound;
+        for (unsigned call = 0; call < 100; call++) {
+            uint8_t room[40], untouched[40];
+            size_t length;
+            struct sb2_state before = s;
+            memset(room, 0x5A, sizeof room);
+            memset(untouched, 0x5A, sizeof untouched);
+            if (draw() % 2) {
+                struct sb2_sample taken = draw_sample(s.latest.counter);
+                size_t room_length = draw() % 8 ? 16 + draw() % 20 : draw() % 16;
+                answer = sb2_take_sample(&s, &taken, room, room_length, &length);
+                broken += s.error_code != before.error_code;
+            } else {
+                uint8_t message[SB2_MESSAGE_MOST];
+                size_t count = draw() % 8 ? 3 + draw() % 3 : draw() % 38;
+                bool read = count == 3;
+                for (size_t i = 0; i < count; i++)
+                    message[i] = (uint8_t)draw();
+                if (count > 0 && draw() % 8)
+                    message[0] = 0x16;
+                if (count > 1 && draw() % 8)
+                    message[1] = read ? draw() % 0x24 : draw() % 6;
+                if (read && draw() % 8)
+                    message[2] = 0x17;
+                if (count == 5 && draw() % 2)
+                    message[4] = sb2_pec(bytes(message, 4));
+                size_t room_length = draw() % 8 ? 34 + draw() % 4 : draw() % 34;
+                answer = sb2_transact(&s, read, bytes(message, count), bytes(sheet, sheet_length - draw() % 9 / 8), NO_NAMES,
+                                      room, room_length, &length);
+                if (answer == 0 || answer == 10) {
+                    uint8_t exchange[SB2_MESSAGE_MOST];
+                    bool accepted = false;
+                    memcpy(exchange, message, 3);
+                    memcpy(exchange + 3, room, length);
+                    if (read)
+                        sb2_check_exchange(bytes(exchange, 3 + length), &accepted);
+                    broken += read != accepted || read == (length == 0);
+                }
+            }
+            answers[answer]++;
+            broken += sb2_sound(&s) != sound || (answer == 1) == sound;
+            broken += memcmp(room + length, untouched, sizeof room - length) != 0;
+            if (answer != 0 && answer != 10) {
+                broken += length != 0;
+                before.error_code = answer <= 3 ? before.error_code : s.error_code;
+                broken += !sb2_same(&before, &s);
+            }
+        }
+    }
+    CHECK(broken, 0);
+    CHECK(unsound > 0, true);
+    for (unsigned number = 0; number <= 11; number++)
+        CHECK(answers[number] > 0, true);
+}
+
+int main(void)
+{
+    worked_examples();
+    player_example();
+    check_bytes();
+    specification_values();
+    answers_in_order();
+    registers();
+    clock_and_broadcasts();
+    sheets();
+    captures();
+    keys();
+    long_work();
+    printf("second: %u passed, %u failed\n", passed, failed);
+    return failed == 0 ? 0 : 1;
+}
