@@ -11,8 +11,6 @@ use Rattle.pec.specs.Messages.{bitsApart}
 use Rattle.pec.proofs.Loops.{apart-next, apart-end, apart-le}
 use Rattle.pec.proofs.bits_apart.Statement.{statement}
 use Rattle.pec.proofs.bits_apart.Tie as tie
-use Rattle.pec.proofs.bits_apart.Reads as reads
-use Rattle.pec.proofs.bits_apart.Lts as lts
 
 abbrev Inv-loop : tie.InvT-loop
 Inv-loop a b sum₀ i₀ sum i = (i ≤ length a) × (sum + bitsApart (drop i a) (drop i b) ≡ bitsApart a b) × (sum ≤ 8 * i)

@@ -1,10 +1,9 @@
 -- `pec::exchange_check` meets its contract.
 -- Assumes nothing.
-use mathlib.Core.Path.{sym, ap}
+use mathlib.Core.Path.{sym}
 use native.Mathlib.Omega.{arith}
 use borrow.Author.Needs.{needs}
 use borrow.Author.Tests.{lt-ltb, le-ltb}
-use lib.Dec.{eqb}
 use lib.Seq.{length-take-le}
 use Rattle.pec.specs.Messages.{endsInPec}
 use Rattle.pec.proofs.exchange_check.Statement.{statement}

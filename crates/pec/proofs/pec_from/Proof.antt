@@ -9,9 +9,6 @@ use Rattle.pec.specs.Pec.{pecFrom}
 use Rattle.pec.proofs.Loops.{pec-next, pec-end}
 use Rattle.pec.proofs.pec_from.Statement.{statement}
 use Rattle.pec.proofs.pec_from.Tie as tie
-use Rattle.pec.proofs.pec_from.Reads as reads
-use Rattle.pec.proofs.pec_from.Lts as lts
-use Rattle.pec.proofs.pec_step.Reads as pec-step-reads
 
 abbrev Inv-loop : tie.InvT-loop
 Inv-loop start s acc₀ i₀ acc i = (i ≤ length s) × (pecFrom acc (drop i s) ≡ pecFrom start s)
