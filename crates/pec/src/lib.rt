@@ -6,6 +6,12 @@ ghost use lib.ListN.{length};
 ghost use Rattle.pec.specs.Pec.{byteStep, pecFrom, pecOf};
 ghost use Rattle.pec.specs.Messages.{exchangeCheck, bitsApart, bitComparison};
 
+// The most bytes of an exchange: 16, command, 17, count, 32 bytes and PEC.
+const LONGEST: usize = 37;
+
+// The answer to a message too short or too long, or to two of unequal lengths.
+const REFUSED: u8 = 15;
+
 // The remainder of each byte.
 const TABLE: [u8; 256] = *b"\x00\x07\x0e\x09\x1c\x1b\x12\x15\x38\x3f\x36\x31\x24\x23\x2a\x2d\
     \x70\x77\x7e\x79\x6c\x6b\x62\x65\x48\x4f\x46\x41\x54\x53\x5a\x5d\
@@ -24,11 +30,17 @@ const TABLE: [u8; 256] = *b"\x00\x07\x0e\x09\x1c\x1b\x12\x15\x38\x3f\x36\x31\x24
     \xae\xa9\xa0\xa7\xb2\xb5\xbc\xbb\x96\x91\x98\x9f\x8a\x8d\x84\x83\
     \xde\xd9\xd0\xd7\xc2\xc5\xcc\xcb\xe6\xe1\xe8\xef\xfa\xfd\xf4\xf3";
 
+fn remainder(b: u8) -> u8
+    ensures { λ r. ⌜ r ≡ byteStep b ⌝ }
+{
+    TABLE[b as usize]
+}
+
 // What stands after one more byte.
 pub fn pec_step(acc: u8, b: u8) -> u8
     ensures { λ r. ⌜ r ≡ byteStep (bitXor acc b) ⌝ }
 {
-    TABLE[(acc ^ b) as usize]
+    remainder(acc ^ b)
 }
 
 // What stands after more bytes: so a PEC runs over several pieces that are not joined.
@@ -64,13 +76,13 @@ pub fn exchange_check(s: &[u8]) -> Checked
     let n = s.len();
     if n < 2 {
         return Checked {
-            answer: 15,
+            answer: REFUSED,
             right: false,
         };
     }
-    if n > 37 {
+    if n > LONGEST {
         return Checked {
-            answer: 15,
+            answer: REFUSED,
             right: false,
         };
     }
@@ -95,13 +107,13 @@ pub fn bit_comparison(a: &[u8], b: &[u8]) -> Compared
     let n = a.len();
     if n != b.len() {
         return Compared {
-            answer: 15,
+            answer: REFUSED,
             bits: 0,
         };
     }
-    if n > 37 {
+    if n > LONGEST {
         return Compared {
-            answer: 15,
+            answer: REFUSED,
             bits: 0,
         };
     }
@@ -117,10 +129,10 @@ fn bits_apart(a: &[u8], b: &[u8]) -> u32
     ensures { λ r. ⌜ r ≡ bitsApart (now (a .entry)) (now (b .entry)) ⌝ }
 {
     let mut sum: u32 = 0;
-    let mut i = 0;
-    while i < a.len() {
-        sum += u8::count_ones(a[i] ^ b[i]);
-        i += 1;
+    let mut at = 0;
+    while at < a.len() {
+        sum += u8::count_ones(a[at] ^ b[at]);
+        at += 1;
     }
     sum
 }
