@@ -12,25 +12,12 @@ use lib.Seq.{split-at}
 use lib.Bits.{bitXor, xor-lt, xor-self, xor-comm}
 use Rattle.pec.specs.Pec.{bitStep, byteStep, pecFrom, pecOf}
 use Rattle.pec.specs.Messages.{endsInPec}
+use Rattle.pec.proofs.Bounds.{bitStep-lt, byteStep-lt, pecFrom-lt, pec-lt}
 use Rattle.pec.proofs.Join.{join}
 use Rattle.pec_laws.specs.Places.{Bytes}
 use Rattle.pec_laws.specs.Faults.{RightIsNone}
 use Rattle.pec_laws.proofs.Xor.{xor-none, xor-cancel, byteStep-xor}
 use Rattle.pec_laws.proofs.Orbit.{bitStep-none}
-use Rattle.pec_laws.proofs.Bits.{bitStep-lt}
-
-byteStep-lt : (s : ℕ) → byteStep s < 256
-unfolding byteStep
-byteStep-lt s = bitStep-lt _
-
-pecFrom-lt : (s : ℕ) (xs : List ℕ) → s < 256 → pecFrom s xs < 256
-unfolding pecFrom
-pecFrom-lt s [] h = h
-pecFrom-lt s (x ∷ xs) h = pecFrom-lt (byteStep (bitXor s x)) xs (byteStep-lt (bitXor s x))
-
-pub pec-lt : (xs : List ℕ) → pecOf xs < 256
-unfolding pecOf
-pec-lt xs = pecFrom-lt 0 xs (lit< tt)
 
 byteStep-none : (s : ℕ) → s < 256 → byteStep s ≡ 0 → s ≡ 0
 unfolding byteStep
