@@ -50,6 +50,11 @@ at-byte [] h i = lit< tt
 at-byte (x ∷ xs) h zero = h .0
 at-byte (x ∷ xs) h (suc i) = at-byte xs (h .1) i
 
+-- what is known of a lent slice, that each of its elements is a byte, as the theorems take it
+pub all-bytes : (xs : List ℕ) → ((i : ℕ) → getD xs i 0 < 256) → Bytes xs
+all-bytes [] h = tt
+all-bytes (x ∷ xs) h = (h zero, all-bytes xs (λ i. h (suc i)))
+
 pub right-is-none : RightIsNone
 unfolding endsInPec
 right-is-none xs h k = (λ r. ap pecOf whole ∙ iff .1 (eqb-true _ _ (r .1)), λ e. (k, eq-eqb _ _ (iff .0 (sym (ap pecOf whole) ∙ e))))
