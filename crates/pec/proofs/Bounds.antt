@@ -10,7 +10,7 @@ use Rattle.pec.specs.Pec.{bitStep, byteStep, pecFrom, pecOf}
 
 pub bitStep-lt : (s : ℕ) → bitStep s < 256
 unfolding bitStep
-bitStep-lt s = xor-lt 8 (s * 2 % 256) (s / 128 % 2 * 7) (mod-lt (s * 2) (lit< tt)) (omega (arith, mod-lt (s / 128) (zero-lt-suc 1)))
+bitStep-lt s = xor-lt 8 (s * 2 % 256) _ (mod-lt (s * 2) (lit< tt)) (omega (arith, mod-lt (s / 128) (zero-lt-suc 1)))
 
 pub byteStep-lt : (s : ℕ) → byteStep s < 256
 unfolding byteStep
