@@ -1,0 +1,5 @@
+pub mod Bounds
+pub mod Join
+pub mod Loops
+pub mod Table
+pub mod Unique
