@@ -60,8 +60,8 @@ module _ (k : List ℕ) (at n : ℕ) (h : at < length k) where
       (hr ∙ ap (λ (i : ℕ). placed (readPlain (drop i k)) (at + 1) (n + 1)) (add-one at) ∙ ap (λ (i : ℕ). placed (readPlain (drop (suc at) k)) i (n + 1)) z
       ∙ push-marked (getD k at 0) (readPlain (drop (suc at) k)) (at - 1) n m)
 
-  pub esc-other : (getD k at 0 ≡ 47 → ⊥) → (getD k at 0 ≡ 92 → ⊥) → Refused ≡ placed (readEscaped (drop at k)) (at - 1) n
-  esc-other x y = rw (drop-cons k at 0 h, ne-eqb _ 47 x, ne-eqb _ 92 y)
+  pub esc-other : marked (getD k at 0) ≡ false → Refused ≡ placed (readEscaped (drop at k)) (at - 1) n
+  esc-other m = rw (drop-cons k at 0 h, m)
 
 pub at-end : (k : List ℕ) (at n : ℕ) → length k ≤ at → End n ≡ placed (readPlain (drop at k)) at n
 at-end k at n h = rw (drop-of-length-le k h) (rw (add-zero n))

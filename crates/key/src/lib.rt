@@ -2,9 +2,9 @@
 ghost use mathlib.Core.Path.{_≡_};
 ghost use Prim.Native.Nat.{_+_, _-_, _*_, _<_, _≤_};
 ghost use mathlib.Core.Option.{none};
-ghost use lib.ListN.{length, drop, take};
+ghost use lib.ListN.{length, drop};
 ghost use lib.Seq.{sets};
-ghost use Rattle.key.specs.Key.{escape, escapeByte, hexDigit, hexWord, wroteOf, roomAfter, readPlain, readEscaped, digitValue, isWord, wordOf, isWords, readKey, readOf, makerOf, deviceOf, unescaped, plainWrote, plainRoom};
+ghost use Rattle.key.specs.Key.{marked, escape, escapeByte, hexDigit, hexWord, wroteOf, roomAfter, readPlain, readEscaped, digitValue, isWord, wordOf, isWords, readKey, readOf, makerOf, deviceOf, unescaped, plainWrote, plainRoom};
 ghost use Rattle.key.specs.Steps.{placed, strokeOf, foundOf, countOf, plainOf, pastMark};
 
 // An answer number, and how many bytes were written.
@@ -37,18 +37,20 @@ struct Found {
     serial: u16,
 }
 
+// A byte that a name has escaped.
+fn is_marked(b: u8) -> bool
+    ensures { λ r. ⌜ r ≡ marked b ⌝ }
+{
+    (b == 0x2F) | (b == 0x5C)
+}
+
 // The byte as a key has it, written at a place.
 fn put_byte(b: u8, room: &mut [u8], at: usize) -> usize
     requires { ⌜ at + 2 ≤ length (now room) ⌝ }
     ensures { λ r. ⌜ r ≡ at + length (escapeByte b) ⌝ }
     ensures { λ _. ⌜ now (room .exit) ≡ sets (now (room .entry)) at (escapeByte b) ⌝ }
 {
-    if b == 0x2F {
-        room[at] = 0x5C;
-        room[at + 1] = b;
-        return at + 2;
-    }
-    if b == 0x5C {
+    if is_marked(b) {
         room[at] = 0x5C;
         room[at + 1] = b;
         return at + 2;
@@ -156,10 +158,8 @@ fn escaped(key: &[u8], at: usize, n: usize) -> Scan
     ensures { λ r. ⌜ r ≡ placed (readEscaped (drop at (now (key .entry)))) (at - 1) n ⌝ }
 {
     if at < key.len() {
-        let b = key[at];
-        if b == 0x2F {
-            plain(key, at + 1, n + 1)
-        } else if b == 0x5C {
+        let handed = key[at];
+        if is_marked(handed) {
             plain(key, at + 1, n + 1)
         } else {
             Scan::Refused

@@ -1,5 +1,7 @@
-use Prim.Native.Nat.{ℕ, _<_, _-_}
+use borrow.Author.Needs.{needs}
 use native.Mathlib.Omega.{arith}
+use mathlib.Core.Path.{_∙_, sym}
+use Prim.Native.Nat.{ℕ, _<_, _-_}
 use lib.ListN.{length}
 use Rattle.key.proofs.Reading.{at-stroke, at-mark, at-other, at-end, esc-marked, esc-other, esc-end}
 use borrow.Fn.Kinds.{In}
@@ -10,6 +12,7 @@ use Rattle.key.proofs.+escaped+plain.Lts-escaped as escaped-lts
 use Rattle.key.proofs.plain.Reads as plain
 use Rattle.key.proofs.plain.Kinds as plain-kinds
 use Rattle.key.proofs.+escaped+plain.Lts-plain as plain-lts
+use Rattle.key.proofs.is_marked.Reads as is-marked-reads
 use Rattle.key.proofs.+escaped+plain.{statement}
 use Rattle.key.proofs.+escaped+plain.Tie.{close}
 
@@ -31,53 +34,69 @@ plain-at t = and 1 plain-kinds.ps (is 1 plain-kinds.ps μ-plain t) plain.Pre
 abbrev plain-below : ℕ → In 1 plain-kinds.ps
 plain-below t = and 1 plain-kinds.ps (falls 1 plain-kinds.ps _<_ μ-plain t) plain.Pre
 
-escaped-shared-slice-read-b : (t : ℕ) → escaped-lts.Need-shared-slice-read-b (
+escaped-shared-slice-read-handed : (t : ℕ) → escaped-lts.Need-shared-slice-read-handed (
+  is-marked-reads.Asked,
+  is-marked-reads.Learnt,
   plain-below t,
   plain.Post,
 ) (escaped-at t) escaped.Post
-escaped-shared-slice-read-b t c = omega arith
+escaped-shared-slice-read-handed t c = omega arith
 
-escaped-add-plain :
-    (t : ℕ) → escaped-lts.Need-add-plain (plain-below t, plain.Post) (escaped-at t) escaped.Post
+escaped-is-marked-requires : (t : ℕ) → escaped-lts.Need-is-marked-requires (
+  is-marked-reads.Asked,
+  is-marked-reads.Learnt,
+  plain-below t,
+  plain.Post,
+) (escaped-at t) escaped.Post
+escaped-is-marked-requires t c κs = search needs
+
+escaped-add-plain : (t : ℕ) → escaped-lts.Need-add-plain (
+  is-marked-reads.Asked,
+  is-marked-reads.Learnt,
+  plain-below t,
+  plain.Post,
+) (escaped-at t) escaped.Post
 escaped-add-plain t c = omega arith
 
-escaped-add-plain-2 :
-    (t : ℕ) → escaped-lts.Need-add-plain-2 (plain-below t, plain.Post) (escaped-at t) escaped.Post
+escaped-add-plain-2 : (t : ℕ) → escaped-lts.Need-add-plain-2 (
+  is-marked-reads.Asked,
+  is-marked-reads.Learnt,
+  plain-below t,
+  plain.Post,
+) (escaped-at t) escaped.Post
 escaped-add-plain-2 t c = omega arith
 
-escaped-plain-requires :
-    (t : ℕ) →
-    escaped-lts.Need-plain-requires (plain-below t, plain.Post) (escaped-at t) escaped.Post
+escaped-plain-requires : (t : ℕ) → escaped-lts.Need-plain-requires (
+  is-marked-reads.Asked,
+  is-marked-reads.Learnt,
+  plain-below t,
+  plain.Post,
+) (escaped-at t) escaped.Post
 escaped-plain-requires t c κs = (omega arith, omega arith)
 
-escaped-add-plain-3 :
-    (t : ℕ) → escaped-lts.Need-add-plain-3 (plain-below t, plain.Post) (escaped-at t) escaped.Post
-escaped-add-plain-3 t c = omega arith
+escaped-returns : (t : ℕ) → escaped-lts.Need-returns (
+  is-marked-reads.Asked,
+  is-marked-reads.Learnt,
+  plain-below t,
+  plain.Post,
+) (escaped-at t) escaped.Post
+escaped-returns t c = esc-marked _ _ _ (c .before .before .before .before .if1 .taken) (sym (c .before .before .is-marked .ensures) ∙ c .before .if2 .taken) (omega arith) (c .plain .ensures)
 
-escaped-add-plain-4 :
-    (t : ℕ) → escaped-lts.Need-add-plain-4 (plain-below t, plain.Post) (escaped-at t) escaped.Post
-escaped-add-plain-4 t c = omega arith
+escaped-returns-2 : (t : ℕ) → escaped-lts.Need-returns-2 (
+  is-marked-reads.Asked,
+  is-marked-reads.Learnt,
+  plain-below t,
+  plain.Post,
+) (escaped-at t) escaped.Post
+escaped-returns-2 t c = esc-other _ _ _ (c .before .before .before .if1 .taken) (sym (c .before .is-marked .ensures) ∙ c .if2 .left)
 
-escaped-plain-requires-2 :
-    (t : ℕ) →
-    escaped-lts.Need-plain-requires-2 (plain-below t, plain.Post) (escaped-at t) escaped.Post
-escaped-plain-requires-2 t c κs = (omega arith, omega arith)
-
-escaped-returns :
-    (t : ℕ) → escaped-lts.Need-returns (plain-below t, plain.Post) (escaped-at t) escaped.Post
-escaped-returns t c = esc-marked _ _ _ (c .before .before .before .if1 .taken) (rw (c .before .if2 .taken)) (omega arith) (c .plain .ensures)
-
-escaped-returns-2 :
-    (t : ℕ) → escaped-lts.Need-returns-2 (plain-below t, plain.Post) (escaped-at t) escaped.Post
-escaped-returns-2 t c = esc-marked _ _ _ (c .before .before .before .before .if1 .taken) (rw (c .before .if3 .taken)) (omega arith) (c .plain2 .ensures)
-
-escaped-returns-3 :
-    (t : ℕ) → escaped-lts.Need-returns-3 (plain-below t, plain.Post) (escaped-at t) escaped.Post
-escaped-returns-3 t c = esc-other _ _ _ (c .before .before .before .if1 .taken) (c .before .if2 .left) (c .if3 .left)
-
-escaped-returns-4 :
-    (t : ℕ) → escaped-lts.Need-returns-4 (plain-below t, plain.Post) (escaped-at t) escaped.Post
-escaped-returns-4 t c = esc-end _ _ _ (c .if1 .left)
+escaped-returns-3 : (t : ℕ) → escaped-lts.Need-returns-3 (
+  is-marked-reads.Asked,
+  is-marked-reads.Learnt,
+  plain-below t,
+  plain.Post,
+) (escaped-at t) escaped.Post
+escaped-returns-3 t c = esc-end _ _ _ (c .if1 .left)
 
 plain-shared-slice-read-b : (t : ℕ) → plain-lts.Need-shared-slice-read-b (
   escaped-below t,
@@ -160,25 +179,22 @@ plain-returns-4 : (t : ℕ) → plain-lts.Need-returns-4 (
 plain-returns-4 t c = at-end _ _ _ (c .if1 .left)
 
 pub +escaped+plain-spec : {M : Type 1} → statement M
-+escaped+plain-spec =
-    close
-    μ-escaped
-    μ-plain
-    (λ t. escaped-lts.spec
-    (plain-below t, plain.Post)
++escaped+plain-spec = close μ-escaped μ-plain (λ t. escaped-lts.spec (
+  is-marked-reads.Asked,
+  is-marked-reads.Learnt,
+  plain-below t,
+  plain.Post,
+)
     (escaped-at t)
     escaped.Post
-    (escaped-shared-slice-read-b t)
+    (escaped-shared-slice-read-handed t)
+    (escaped-is-marked-requires t)
     (escaped-add-plain t)
     (escaped-add-plain-2 t)
     (escaped-plain-requires t)
-    (escaped-add-plain-3 t)
-    (escaped-add-plain-4 t)
-    (escaped-plain-requires-2 t)
     (escaped-returns t)
     (escaped-returns-2 t)
-    (escaped-returns-3 t)
-    (escaped-returns-4 t))
+    (escaped-returns-3 t))
     λ t. plain-lts.spec
     (escaped-below t, escaped.Post, plain-below t, plain.Post)
     (plain-at t)
