@@ -36,13 +36,14 @@ hexWord w = hexDigit (w / 4096) ∷ hexDigit (w / 256 % 16) ∷ hexDigit (w / 16
 unfoldable pub keyOf : List ℕ → List ℕ → ℕ → ℕ → List ℕ
 keyOf maker device date serial = escape maker ++ (0x2F ∷ (escape device ++ (0x2F ∷ (hexWord date ++ (0x2F ∷ hexWord serial)))))
 
--- four parts that a key can have: names of up to 32 bytes, and words
+-- the four parts of a pack
 pub record Parts : Type 0 where
   pub maker : List ℕ
   pub device : List ℕ
   pub date : ℕ
   pub serial : ℕ
 
+-- the parts that a key can have: names of up to 32 bytes, and words
 pub record Fit (p : Parts) : Type 0 where
   pub maker-fits : length (p .maker) ≤ 32
   pub device-fits : length (p .device) ≤ 32
@@ -64,7 +65,7 @@ dateWord year month day = (year - 1980) * 512 + month * 32 + day
 
 -- ---- writing
 
--- what is refused: a name over 32 bytes, or a room under 139
+-- what the writer refuses: a name over 32 bytes, or a room under 139
 unfoldable pub refused : List ℕ → List ℕ → List ℕ → Bool
 refused maker device room = ltb 32 (length maker) || ltb 32 (length device) || ltb (length room) 139
 
@@ -118,13 +119,14 @@ wordOf s = digitValue (getD s 0 0) * 4096 + digitValue (getD s 1 0) * 256 + digi
 unfoldable pub isWords : List ℕ → Bool
 isWords s = eqb (length s) 9 && isWord s && eqb (getD s 4 0) 0x2F && isWord (drop 5 s)
 
--- reading goes on after the maker, and after the device name
+-- after the device name, which has up to 32 bytes, come the words
 abbrev pub afterDevice : List ℕ → Name → Option Parts
 afterDevice maker bad = none
 afterDevice maker (ended device) = none
 afterDevice maker (stopped device rest) =
     cond (leb (length device) 32 && isWords rest) (some (record { maker = maker; device = device; date = wordOf rest; serial = wordOf (drop 5 rest) })) none
 
+-- after the maker, which has up to 32 bytes, comes the device name
 abbrev pub afterMaker : Name → Option Parts
 afterMaker bad = none
 afterMaker (ended maker) = none

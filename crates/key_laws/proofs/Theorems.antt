@@ -145,6 +145,10 @@ pub read-written : (p : Parts) → Fit p
     → (readOf (readKey (keyOfParts p)) ≡ record { answer = 0; date = p .date; serial = p .serial }) × (makerOf (readKey (keyOfParts p)) ≡ escape (p .maker)) × (deviceOf (readKey (keyOfParts p)) ≡ escape (p .device))
 read-written p f = let e = read-back p f in (ap readOf e, ap makerOf e, ap deviceOf e)
 
+-- and a reader of keys gets the very names that were put in
+pub names-back : (p : Parts) → Fit p → (unescaped (makerOf (readKey (keyOfParts p))) ≡ some (p .maker)) × (unescaped (deviceOf (readKey (keyOfParts p))) ≡ some (p .device))
+names-back p f = let e = read-back p f in (rw e (unescape-escape (p .maker)), rw e (unescape-escape (p .device)))
+
 -- ---- 6: joined with a dash two packs merge, and here they have two keys
 
 pub dash-merges : dashed hazel ≡ dashed hazelK
