@@ -1,0 +1,5 @@
+pub mod Writing
+pub mod Reading
+pub mod Words
+pub mod Keys
+pub mod Unescaping

@@ -1,0 +1,132 @@
+-- The laws of reading names: what plain reading and the escape rule find, byte by byte, and what that says of the bytes. Assumes nothing.
+use mathlib.Core.Path.{_≡_, refl, sym, ap, _∙_, subst}
+use mathlib.Core.Bool.{Bool, true, false}
+use mathlib.Core.List.{List, [], _∷_, _++_, append-assoc, append-nil}
+use Prim.Native.Nat.{ℕ, suc, _+_, _-_, _≤_, _<_}
+use native.Mathlib.Nat.{add-zero}
+use native.Mathlib.Numerals.{add-one}
+use native.Mathlib.Omega.{arith}
+use lib.Dec.{eqb}
+use lib.ListN.{length, drop, getD, drop-of-length-le}
+use lib.Seq.{drop-cons}
+use borrow.Author.Tests.{eqb-true, ne-eqb}
+use Rattle.key.specs.declared.Scan.{Scan}
+use Rattle.key.specs.declared.Scan.the-variants.{Refused, End, Stroke}
+use Rattle.key.specs.Key.{marked, escapeByte, escape, Name, bad, ended, stopped, push, readPlain, readEscaped}
+use Rattle.key.specs.Steps.{placed}
+
+-- ---- a byte at a time
+
+-- one byte more in front moves the place by the bytes it has in the key
+push-plain : (b : ℕ) (r : Name) (at n : ℕ) → marked b ≡ false → placed r (at + 1) (n + 1) ≡ placed (push b r) at n
+push-plain b bad at n e = refl
+push-plain b (ended name) at n e =
+    let z : n + 1 + length name ≡ n + suc (length name) = omega arith in
+    ap End z
+push-plain b (stopped name rest) at n e =
+    let z : n + 1 + length name ≡ n + suc (length name) = omega arith in
+    let y : at + 1 + length (escape name) ≡ at + length (escapeByte b ++ escape name) = rw e (omega arith) in
+    ap (λ (i : ℕ). Stroke i (n + 1 + length name)) y ∙ ap (λ (i : ℕ). Stroke (at + length (escapeByte b ++ escape name)) i) z
+
+push-marked : (b : ℕ) (r : Name) (at n : ℕ) → marked b ≡ true → placed r (at + 2) (n + 1) ≡ placed (push b r) at n
+push-marked b bad at n e = refl
+push-marked b (ended name) at n e =
+    let z : n + 1 + length name ≡ n + suc (length name) = omega arith in
+    ap End z
+push-marked b (stopped name rest) at n e =
+    let z : n + 1 + length name ≡ n + suc (length name) = omega arith in
+    let y : at + 2 + length (escape name) ≡ at + length (escapeByte b ++ escape name) = rw e (omega arith) in
+    ap (λ (i : ℕ). Stroke i (n + 1 + length name)) y ∙ ap (λ (i : ℕ). Stroke (at + length (escapeByte b ++ escape name)) i) z
+
+module _ (k : List ℕ) (at n : ℕ) (h : at < length k) where
+  pub at-stroke : getD k at 0 ≡ 47 → Stroke at n ≡ placed (readPlain (drop at k)) at n
+  at-stroke e = rw (drop-cons k at 0 h, e) (rw (add-zero at, add-zero n))
+
+  pub at-mark : getD k at 0 ≡ 92 → {r : Scan} → r ≡ placed (readEscaped (drop (at + 1) k)) (at + 1 - 1) n → r ≡ placed (readPlain (drop at k)) at n
+  at-mark e hr =
+      let z : at + 1 - 1 ≡ at = omega arith in
+      rw (drop-cons k at 0 h, e) (hr ∙ ap (λ (i : ℕ). placed (readEscaped (drop i k)) (at + 1 - 1) n) (add-one at) ∙ ap (λ (i : ℕ). placed (readEscaped (drop (suc at) k)) i n) z)
+
+  pub at-other : (getD k at 0 ≡ 47 → ⊥) → (getD k at 0 ≡ 92 → ⊥) → {r : Scan} → r ≡ placed (readPlain (drop (at + 1) k)) (at + 1) (n + 1) → r ≡ placed (readPlain (drop at k)) at n
+  at-other x y hr =
+      let m : marked (getD k at 0) ≡ false = simp (ne-eqb _ 47 x, ne-eqb _ 92 y) in
+      rw (drop-cons k at 0 h, ne-eqb _ 47 x, ne-eqb _ 92 y)
+      (hr ∙ ap (λ (i : ℕ). placed (readPlain (drop i k)) (at + 1) (n + 1)) (add-one at) ∙ push-plain (getD k at 0) (readPlain (drop (suc at) k)) at n m)
+
+  pub esc-marked : marked (getD k at 0) ≡ true → n < at → {r : Scan} → r ≡ placed (readPlain (drop (at + 1) k)) (at + 1) (n + 1) → r ≡ placed (readEscaped (drop at k)) (at - 1) n
+  esc-marked m l hr =
+      let z : at + 1 ≡ at - 1 + 2 = omega arith in
+      rw (drop-cons k at 0 h, m)
+      (hr ∙ ap (λ (i : ℕ). placed (readPlain (drop i k)) (at + 1) (n + 1)) (add-one at) ∙ ap (λ (i : ℕ). placed (readPlain (drop (suc at) k)) i (n + 1)) z
+      ∙ push-marked (getD k at 0) (readPlain (drop (suc at) k)) (at - 1) n m)
+
+  pub esc-other : marked (getD k at 0) ≡ false → Refused ≡ placed (readEscaped (drop at k)) (at - 1) n
+  esc-other m = rw (drop-cons k at 0 h, m)
+
+pub at-end : (k : List ℕ) (at n : ℕ) → length k ≤ at → End n ≡ placed (readPlain (drop at k)) at n
+at-end k at n h = rw (drop-of-length-le k h) (rw (add-zero n))
+
+pub esc-end : (k : List ℕ) (at n : ℕ) → length k ≤ at → Refused ≡ placed (readEscaped (drop at k)) (at - 1) n
+esc-end k at n h = rw (drop-of-length-le k h)
+
+-- ---- what is read says what the bytes are
+
+abbrev pub Is : List ℕ → Name → Type 0
+Is k bad = Unit
+Is k (ended name) = k ≡ escape name
+Is k (stopped name rest) = k ≡ escape name ++ (47 ∷ rest)
+
+pushed : (b : ℕ) (s : List ℕ) (r : Name) → Is s r → Is (escapeByte b ++ s) (push b r)
+pushed b s bad i = tt
+pushed b s (ended name) i = ap (λ (l : List ℕ). escapeByte b ++ l) i
+pushed b s (stopped name rest) i = rw append-assoc (ap (λ (l : List ℕ). escapeByte b ++ l) i)
+
+plain-step : (b : ℕ) (s : List ℕ) → Is s (readPlain s) → Is (92 ∷ s) (readEscaped s) → (p q : Bool) → eqb b 47 ≡ p → eqb b 92 ≡ q → Is (b ∷ s) (readPlain (b ∷ s))
+plain-step b s i j true q e f = rw e (rw (eqb-true b 47 e))
+plain-step b s i j false true e f = simp (e, f) (subst (λ (x : ℕ). Is (x ∷ s) (readEscaped s)) (sym (eqb-true b 92 f)) j)
+plain-step b s i j false false e f = simp (e, f) (simp (e, f) at (pushed b s (readPlain s) i))
+
+escaped-step : (b : ℕ) (s : List ℕ) → Is s (readPlain s) → (p : Bool) → marked b ≡ p → Is (92 ∷ b ∷ s) (readEscaped (b ∷ s))
+escaped-step b s i true e = rw e (rw e at (pushed b s (readPlain s) i))
+escaped-step b s i false e = rw e tt
+
+mutual
+  pub plain-is : (k : List ℕ) → Is k (readPlain k)
+  plain-is [] = refl
+  plain-is (b ∷ s) = plain-step b s (plain-is s) (escaped-is s) (eqb b 47) (eqb b 92) refl refl
+
+  pub escaped-is : (k : List ℕ) → Is (92 ∷ k) (readEscaped k)
+  escaped-is [] = tt
+  escaped-is (b ∷ s) = escaped-step b s (plain-is s) (marked b) refl
+
+-- ---- what is escaped is read back
+
+abbrev pub pushes : List ℕ → Name → Name
+pushes [] r = r
+pushes (b ∷ m) r = push b (pushes m r)
+
+read-one : (b : ℕ) (t : List ℕ) → readPlain (escapeByte b ++ t) ≡ push b (readPlain t)
+read-one b t = go (eqb b 47) (eqb b 92) refl refl
+  where
+    go : (p q : Bool) → eqb b 47 ≡ p → eqb b 92 ≡ q → readPlain (escapeByte b ++ t) ≡ push b (readPlain t)
+    go true q e f = rw (eqb-true b 47 e)
+    go false true e f = rw (eqb-true b 92 f)
+    go false false e f = simp (e, f)
+
+read-over : (m t : List ℕ) → readPlain (escape m ++ t) ≡ pushes m (readPlain t)
+read-over [] t = refl
+read-over (b ∷ m) t = rw append-assoc (read-one b (escape m ++ t) ∙ ap (push b) (read-over m t))
+
+pushes-ended : (m : List ℕ) → pushes m (ended []) ≡ ended m
+pushes-ended [] = refl
+pushes-ended (b ∷ m) = ap (push b) (pushes-ended m)
+
+pushes-stopped : (m t : List ℕ) → pushes m (stopped [] t) ≡ stopped m t
+pushes-stopped [] t = refl
+pushes-stopped (b ∷ m) t = ap (push b) (pushes-stopped m t)
+
+pub read-ended : (m : List ℕ) → readPlain (escape m) ≡ ended m
+read-ended m = ap readPlain (sym (append-nil (escape m))) ∙ read-over m [] ∙ pushes-ended m
+
+pub read-stopped : (m t : List ℕ) → readPlain (escape m ++ (47 ∷ t)) ≡ stopped m t
+read-stopped m t = read-over m (47 ∷ t) ∙ pushes-stopped m t

@@ -1,0 +1,172 @@
+-- Pack keys, in the words of document 01, "Key": what a key is, how it is written, how bytes are read. Assumes nothing: these are definitions.
+use mathlib.Core.Path.{_≡_}
+use mathlib.Core.Bool.{Bool, cond, _&&_, _||_}
+use mathlib.Core.List.{List, [], _∷_, _++_}
+use mathlib.Core.Option.{Option, none, some}
+use Prim.Native.Nat.{ℕ, _+_, _*_, _-_, _/_, _%_, _≤_, _<_}
+use lib.Dec.{eqb, ltb, leb}
+use lib.ListN.{length, getD, drop}
+use Rattle.key.specs.declared.Wrote.{Wrote}
+use Rattle.key.specs.declared.Read.{Read}
+
+-- ---- what a key is
+
+-- the two bytes that a name has escaped: 2F, which joins the parts, and 5C, the escape mark
+abbrev pub marked : ℕ → Bool
+marked b = eqb b 0x2F || eqb b 0x5C
+
+-- a byte of a name as the key has it: 2F and 5C are preceded by 5C
+abbrev pub escapeByte : ℕ → List ℕ
+escapeByte b = cond (marked b) (0x5C ∷ b ∷ []) (b ∷ [])
+
+-- a name as the key has it
+abbrev pub escape : List ℕ → List ℕ
+escape [] = []
+escape (b ∷ s) = escapeByte b ++ escape s
+
+-- the lower-case hexadecimal digit of a number below 16: `0` to `9`, `a` to `f`
+abbrev pub hexDigit : ℕ → ℕ
+hexDigit n = cond (ltb n 10) (0x30 + n) (0x57 + n)
+
+-- a word as four digits, the highest first
+unfoldable pub hexWord : ℕ → List ℕ
+hexWord w = hexDigit (w / 4096) ∷ hexDigit (w / 256 % 16) ∷ hexDigit (w / 16 % 16) ∷ hexDigit (w % 16) ∷ []
+
+-- the key of four parts: both names escaped, then date and serial, joined by 2F
+unfoldable pub keyOf : List ℕ → List ℕ → ℕ → ℕ → List ℕ
+keyOf maker device date serial = escape maker ++ (0x2F ∷ (escape device ++ (0x2F ∷ (hexWord date ++ (0x2F ∷ hexWord serial)))))
+
+-- the four parts of a pack
+pub record Parts : Type 0 where
+  pub maker : List ℕ
+  pub device : List ℕ
+  pub date : ℕ
+  pub serial : ℕ
+
+-- the parts that a key can have: names of up to 32 bytes, and words
+pub record Fit (p : Parts) : Type 0 where
+  pub maker-fits : length (p .maker) ≤ 32
+  pub device-fits : length (p .device) ≤ 32
+  pub date-fits : p .date < 65536
+  pub serial-fits : p .serial < 65536
+
+abbrev pub keyOfParts : Parts → List ℕ
+keyOfParts p = keyOf (p .maker) (p .device) (p .date) (p .serial)
+
+-- bytes are a key exactly when the writer gives them for some four parts
+pub record IsKey (bytes : List ℕ) : Type 0 where
+  pub parts : Parts
+  pub fit : Fit parts
+  pub given : bytes ≡ keyOfParts parts
+
+-- the date as a word (002, ManufactureDate): the year from 1980 on, the month and the day
+abbrev pub dateWord : ℕ → ℕ → ℕ → ℕ
+dateWord year month day = (year - 1980) * 512 + month * 32 + day
+
+-- ---- writing
+
+-- what the writer refuses: a name over 32 bytes, or a room under 139
+unfoldable pub refused : List ℕ → List ℕ → List ℕ → Bool
+refused maker device room = ltb 32 (length maker) || ltb 32 (length device) || ltb (length room) 139
+
+-- the writer's answer, and the key's length
+unfoldable pub wroteOf : List ℕ → List ℕ → ℕ → ℕ → List ℕ → Wrote
+wroteOf maker device date serial room =
+    cond (refused maker device room) (record { answer = 12; length = 0 }) (record { answer = 0; length = length (keyOf maker device date serial) })
+
+-- the room after writing: the key at its front, and the rest of the room as it was
+unfoldable pub roomAfter : List ℕ → List ℕ → ℕ → ℕ → List ℕ → List ℕ
+roomAfter maker device date serial room =
+    cond (refused maker device room) room (keyOf maker device date serial ++ drop (length (keyOf maker device date serial)) room)
+
+-- ---- reading
+
+-- what reading a name comes to: an escape before any byte but 2F and 5C; a name that the last byte ends; or a name that a bare 2F ends, and the bytes after that
+pub data Name : Type 0 where
+  bad : Name
+  ended : List ℕ → Name
+  stopped : List ℕ → List ℕ → Name
+
+-- one byte more in front of the name
+abbrev pub push : ℕ → Name → Name
+push b bad = bad
+push b (ended name) = ended (b ∷ name)
+push b (stopped name rest) = stopped (b ∷ name) rest
+
+-- plain reading; an escape mark hands one byte to the escape rule, which hands back to plain reading
+abbrev mutual
+  pub readPlain : List ℕ → Name
+  readPlain [] = ended []
+  readPlain (b ∷ s) = cond (eqb b 0x2F) (stopped [] s) (cond (eqb b 0x5C) (readEscaped s) (push b (readPlain s)))
+
+  pub readEscaped : List ℕ → Name
+  readEscaped [] = bad
+  readEscaped (b ∷ s) = cond (marked b) (push b (readPlain s)) bad
+
+-- the number that a lower-case hexadecimal digit stands for, and 16 for any other byte
+abbrev pub digitValue : ℕ → ℕ
+digitValue c = cond (leb 0x30 c && leb c 0x39) (c - 0x30) (cond (leb 0x61 c && leb c 0x66) (c - 0x57) 16)
+
+-- the bytes begin with four digits
+unfoldable pub isWord : List ℕ → Bool
+isWord s = ltb (digitValue (getD s 0 0)) 16 && ltb (digitValue (getD s 1 0)) 16 && ltb (digitValue (getD s 2 0)) 16 && ltb (digitValue (getD s 3 0)) 16
+
+-- the number that four digits stand for
+unfoldable pub wordOf : List ℕ → ℕ
+wordOf s = digitValue (getD s 0 0) * 4096 + digitValue (getD s 1 0) * 256 + digitValue (getD s 2 0) * 16 + digitValue (getD s 3 0)
+
+-- what follows the names: four digits, 2F, four digits, and no byte more
+unfoldable pub isWords : List ℕ → Bool
+isWords s = eqb (length s) 9 && isWord s && eqb (getD s 4 0) 0x2F && isWord (drop 5 s)
+
+-- after the device name, which has up to 32 bytes, come the words
+abbrev pub afterDevice : List ℕ → Name → Option Parts
+afterDevice maker bad = none
+afterDevice maker (ended device) = none
+afterDevice maker (stopped device rest) =
+    cond (leb (length device) 32 && isWords rest) (some (record { maker = maker; device = device; date = wordOf rest; serial = wordOf (drop 5 rest) })) none
+
+-- after the maker, which has up to 32 bytes, comes the device name
+abbrev pub afterMaker : Name → Option Parts
+afterMaker bad = none
+afterMaker (ended maker) = none
+afterMaker (stopped maker rest) = cond (leb (length maker) 32) (afterDevice maker (readPlain rest)) none
+
+-- the four parts that bytes are read as, or none where they aren't a key
+unfoldable pub readKey : List ℕ → Option Parts
+readKey bytes = afterMaker (readPlain bytes)
+
+-- what the reader answers: the two words; of bytes that aren't a key answer 13 and numbers 0
+abbrev pub readOf : Option Parts → Read
+readOf none = record { answer = 13; date = 0; serial = 0 }
+readOf (some p) = record { answer = 0; date = p .date; serial = p .serial }
+
+-- each name, still escaped; of bytes that aren't a key a part of no bytes
+abbrev pub makerOf : Option Parts → List ℕ
+makerOf none = []
+makerOf (some p) = escape (p .maker)
+
+abbrev pub deviceOf : Option Parts → List ℕ
+deviceOf none = []
+deviceOf (some p) = escape (p .device)
+
+-- ---- a name read back plain
+
+-- the name that was escaped, or none where the bytes are no escaped name
+abbrev pub whole : Name → Option (List ℕ)
+whole bad = none
+whole (ended name) = some name
+whole (stopped name rest) = none
+
+unfoldable pub unescaped : List ℕ → Option (List ℕ)
+unescaped bytes = whole (readPlain bytes)
+
+-- answer 13 where the bytes are no escaped name, 12 where the room is too short for the plain name
+abbrev pub plainWrote : Option (List ℕ) → List ℕ → Wrote
+plainWrote none room = record { answer = 13; length = 0 }
+plainWrote (some name) room = cond (ltb (length room) (length name)) (record { answer = 12; length = 0 }) (record { answer = 0; length = length name })
+
+-- the plain name at the front of the room, and the rest of the room as it was
+abbrev pub plainRoom : Option (List ℕ) → List ℕ → List ℕ
+plainRoom none room = room
+plainRoom (some name) room = cond (ltb (length room) (length name)) room (name ++ drop (length name) room)

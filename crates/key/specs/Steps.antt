@@ -1,0 +1,50 @@
+-- What the contracts of the inner functions cite; the promises are in `Key`. Assumes nothing: these are definitions.
+use mathlib.Core.Bool.{cond}
+use mathlib.Core.List.{List, []}
+use mathlib.Core.Option.{Option, none, some, Option·getD}
+use Prim.Native.Nat.{ℕ, _+_}
+use lib.Dec.{eqb, leb}
+use lib.ListN.{length, getD}
+use Rattle.key.specs.declared.Scan.{Scan}
+use Rattle.key.specs.declared.Scan.the-variants.{Refused, End, Stroke}
+use Rattle.key.specs.declared.Found.{Found}
+use Rattle.key.specs.declared.Wrote.{Wrote}
+use Rattle.key.specs.Key.{Name, bad, ended, stopped, Parts, escape, unescaped}
+
+-- a name that is read from the place `at` on, after n bytes of it: where its 2F stands, and its bytes counted
+abbrev pub placed : Name → ℕ → ℕ → Scan
+placed bad at n = Refused
+placed (ended name) at n = End (n + length name)
+placed (stopped name rest) at n = Stroke (at + length (escape name)) (n + length name)
+
+-- where a name of up to 32 bytes that is read from `at` on ends at a 2F, and `last` where it does not
+abbrev pub strokeOf : Name → ℕ → ℕ → ℕ
+strokeOf bad at last = last
+strokeOf (ended name) at last = last
+strokeOf (stopped name rest) at last = cond (leb (length name) 32) (at + length (escape name)) last
+
+-- answer, words, and the places of both names
+abbrev pub foundOf : Option Parts → Found
+foundOf none = record { answer = 13; «maker_end» = 0; «device_start» = 0; «device_end» = 0; date = 0; serial = 0 }
+foundOf (some p) =
+    record {
+      answer = 0;
+      «maker_end» = length (escape (p .maker));
+      «device_start» = length (escape (p .maker)) + 1;
+      «device_end» = length (escape (p .maker)) + 1 + length (escape (p .device));
+      date = p .date;
+      serial = p .serial;
+    }
+
+-- answer and length of the plain name
+abbrev pub countOf : Option (List ℕ) → Wrote
+countOf none = record { answer = 13; length = 0 }
+countOf (some name) = record { answer = 0; length = length name }
+
+-- the plain name, or no bytes
+abbrev pub plainOf : List ℕ → List ℕ
+plainOf bytes = Option·getD (unescaped bytes) []
+
+-- the place of the byte that an escape mark at `at` hands on, or `at` itself
+abbrev pub pastMark : List ℕ → ℕ → ℕ
+pastMark part at = cond (eqb (getD part at 0) 0x5C) (at + 1) at

@@ -1,0 +1,184 @@
+-- The theorems on pack keys. Assumes nothing.
+use mathlib.Core.Path.{_≡_, refl, sym, ap, _∙_, subst}
+use mathlib.Core.Logic.{_↔_}
+use mathlib.Core.Bool.{Bool, true, false, _||_}
+use mathlib.Core.List.{List, [], _∷_, _++_}
+use mathlib.Core.Option.{Option, none, some}
+use Prim.Native.Nat.{ℕ, _≤_, _<_}
+use native.Mathlib.Omega.{arith}
+use lib.ListN.{length, replicate}
+use lib.Seq.{take-append-seam}
+use lib.Dec.{ltb}
+use borrow.Author.Tests.{le-ltb, ltb-false}
+use Rattle.key.specs.Key.{marked, escapeByte, escape, hexWord, keyOf, keyOfParts, Parts, Fit, IsKey, dateWord, refused, wroteOf, roomAfter, isWords, readKey, readOf, makerOf, deviceOf, unescaped}
+use Rattle.key.proofs.Reading.{read-ended}
+use Rattle.key.proofs.Writing.{key-length, escape-length}
+use Rattle.key.proofs.Keys.{key-given}
+use Rattle.key_laws.specs.Laws.{Written, Bytes, dashed, hazel, hazelK}
+use Rattle.key_laws.proofs.Complete.{wordsOf, words-no, read-names, read-back}
+
+-- ---- what a served call of the writer says
+
+open-room : (p : Parts) → Fit p → refused (p .maker) (p .device) (replicate 139 0) ≡ false
+unfolding refused
+open-room p f = simp (le-ltb _ _ (f .maker-fits), le-ltb _ _ (f .device-fits))
+
+written : (k : List ℕ) → IsKey k → Written k
+unfolding wroteOf roomAfter
+written k i =
+    let p : Parts = i .parts in
+    let o = open-room p (i .fit) in
+    record {
+      parts = p;
+      date-word = i .fit .date-fits;
+      serial-word = i .fit .serial-fits;
+      room = replicate 139 0;
+      served = rw o;
+      front = rw o (take-append-seam (keyOfParts p) _ ∙ sym (i .given));
+    }
+
+neither : (a b : Bool) → a || b ≡ false → (a ≡ false) × (b ≡ false)
+neither true b e = let z : _≡_ {A = ℕ} 0 1 = cc in absurd (omega arith)
+neither false b e = (refl, e)
+
+given : (k : List ℕ) → Written k → IsKey k
+unfolding wroteOf roomAfter refused
+given k w = go (refused (p .maker) (p .device) (w .room)) refl
+  where
+    p : Parts
+    p = w .parts
+
+    go : (t : Bool) → refused (p .maker) (p .device) (w .room) ≡ t → IsKey k
+    go true e = let z : _≡_ {A = ℕ} 12 0 = rw e at (w .served) in absurd (omega arith)
+    go false e =
+        let a = neither (ltb 32 (length (p .maker)) || ltb 32 (length (p .device))) (ltb (length (w .room)) 139) e in
+        let b = neither (ltb 32 (length (p .maker))) (ltb 32 (length (p .device))) (a .0) in
+        record {
+          parts = p;
+          fit = record { maker-fits = ltb-false _ _ (b .0); device-fits = ltb-false _ _ (b .1); date-fits = w .date-word; serial-fits = w .serial-word };
+          given = sym (rw e at (w .front)) ∙ take-append-seam (keyOfParts p) _;
+        }
+
+-- ---- bytes
+
+bytes-append : (s t : List ℕ) → Bytes (s ++ t) → Bytes s × Bytes t
+bytes-append [] t h = (tt, h)
+bytes-append (b ∷ s) t h = let r = bytes-append s t (h .1) in ((h .0, r .0), r .1)
+
+bytes-plain : (name : List ℕ) → Bytes (escape name) → Bytes name
+bytes-plain [] h = tt
+bytes-plain (b ∷ s) h =
+    let r = bytes-append (escapeByte b) (escape s) h in
+    (last (marked b) refl, bytes-plain s (r .1))
+  where
+    last : (t : Bool) → marked b ≡ t → b < 256
+    last true e = (rw e at (bytes-append (escapeByte b) (escape s) h .0)) .1 .0
+    last false e = (rw e at (bytes-append (escapeByte b) (escape s) h .0)) .0
+
+-- ---- 1: unescaping an escaped name gives the name
+
+pub unescape-escape : (name : List ℕ) → unescaped (escape name) ≡ some name
+unfolding unescaped
+unescape-escape name = rw (read-ended name)
+
+-- ---- 2: bytes are a key exactly when the writer gives them for some four parts
+
+pub served-is-key : (k : List ℕ) → readOf (readKey k) .answer ≡ 0 ↔ IsKey k
+served-is-key k = (λ e. go (readKey k) refl e, λ i. rw (i .given, read-back (i .parts) (i .fit)))
+  where
+    go : (o : Option Parts) → readKey k ≡ o → readOf o .answer ≡ 0 → IsKey k
+    go none f e = absurd (omega arith)
+    go (some p) f e = let g = key-given k p f in record { parts = p; fit = g .0; given = g .1 }
+
+-- bytes that aren't a key get answer 13, numbers 0 and parts of no bytes
+pub not-key : (k : List ℕ) → (IsKey k → ⊥) → (readOf (readKey k) ≡ record { answer = 13; date = 0; serial = 0 }) × (makerOf (readKey k) ≡ []) × (deviceOf (readKey k) ≡ [])
+not-key k n = go (readKey k) refl
+  where
+    go : (o : Option Parts) → readKey k ≡ o → (readOf o ≡ record { answer = 13; date = 0; serial = 0 }) × (makerOf o ≡ []) × (deviceOf o ≡ [])
+    go none f = (refl, refl, refl)
+    go (some p) f = let g = key-given k p f in absurd (n (record { parts = p; fit = g .0; given = g .1 }))
+
+-- the same of the writer's contract: some call of it that is answered 0 puts these bytes at the front of its room
+pub is-key-written : (k : List ℕ) → IsKey k ↔ Written k
+is-key-written k = (written k, given k)
+
+-- and the names of a key are bytes where the key's bytes are
+pub names-are-bytes : (k : List ℕ) (i : IsKey k) → Bytes k → Bytes (i .parts .maker) × Bytes (i .parts .device)
+unfolding keyOf
+names-are-bytes k i h =
+    let p : Parts = i .parts in
+    let a = bytes-append (escape (p .maker)) _ (subst Bytes (i .given) h) in
+    let b = bytes-append (escape (p .device)) _ (a .1 .1) in
+    (bytes-plain (p .maker) (a .0), bytes-plain (p .device) (b .0))
+
+-- ---- 3: two packs have equal keys exactly when all four parts agree
+
+pub same-key : (p q : Parts) → Fit p → Fit q → keyOfParts p ≡ keyOfParts q ↔ p ≡ q
+same-key p q f g = (λ e. let s : some p ≡ some q = sym (read-back p f) ∙ ap readKey e ∙ read-back q g in cc, λ e. ap keyOfParts e)
+
+-- ---- 4: no key begins another
+
+pub no-key-begins-another : (k s : List ℕ) → IsKey k → IsKey (k ++ s) → s ≡ []
+no-key-begins-another k s i j = none-left s (go (isWords (wordsOf (p .date) (p .serial) s)) refl)
+  where
+    p : Parts
+    p = i .parts
+
+    q : Parts
+    q = j .parts
+
+    none-left : (t : List ℕ) → length t ≡ 0 → t ≡ []
+    none-left [] e = refl
+    none-left (b ∷ t) e = absurd (omega arith)
+
+    go : (t : Bool) → isWords (wordsOf (p .date) (p .serial) s) ≡ t → length s ≡ 0
+    go true e = words-no (p .date) (p .serial) s e
+    go false e =
+        let a : readKey (keyOfParts p ++ s) ≡ none = read-names p (i .fit) s ∙ rw e in
+        let b : readKey (keyOfParts p ++ s) ≡ some q = ap (λ (l : List ℕ). readKey (l ++ s)) (sym (i .given)) ∙ ap readKey (j .given) ∙ read-back q (j .fit) in
+        let z : _≡_ {A = ℕ} 0 1 = cc in
+        absurd (omega arith)
+
+-- ---- 5: reading what was written gives what was written
+
+pub read-written : (p : Parts) → Fit p
+    → (readOf (readKey (keyOfParts p)) ≡ record { answer = 0; date = p .date; serial = p .serial }) × (makerOf (readKey (keyOfParts p)) ≡ escape (p .maker)) × (deviceOf (readKey (keyOfParts p)) ≡ escape (p .device))
+read-written p f = let e = read-back p f in (ap readOf e, ap makerOf e, ap deviceOf e)
+
+-- and a reader of keys gets the very names that were put in
+pub names-back : (p : Parts) → Fit p → (unescaped (makerOf (readKey (keyOfParts p))) ≡ some (p .maker)) × (unescaped (deviceOf (readKey (keyOfParts p))) ≡ some (p .device))
+names-back p f = let e = read-back p f in (rw e (unescape-escape (p .maker)), rw e (unescape-escape (p .device)))
+
+-- ---- 6: joined with a dash two packs merge, and here they have two keys
+
+pub dash-merges : dashed hazel ≡ dashed hazelK
+unfolding dashed
+dash-merges = refl
+
+pub keys-differ : keyOfParts hazel ≡ keyOfParts hazelK → ⊥
+unfolding keyOf
+keys-differ e = let z : _≡_ {A = ℕ} 47 45 = cc in omega arith
+
+-- ---- 7: a key has at most 139 bytes, and some key has exactly 139
+
+pub key-at-most-139 : (k : List ℕ) → IsKey k → length k ≤ 139
+key-at-most-139 k i =
+    let p : Parts = i .parts in
+    omega (arith, ap length (i .given), key-length (p .maker) (p .device) (p .date) (p .serial), escape-length (p .maker), escape-length (p .device), i .fit .maker-fits, i .fit .device-fits)
+
+abbrev longest : Parts
+longest = record { maker = replicate 32 0x2F; device = replicate 32 0x5C; date = 0; serial = 0 }
+
+pub some-key-of-139 : IsKey (keyOfParts longest) × (length (keyOfParts longest) ≡ 139)
+unfolding keyOf hexWord
+some-key-of-139 = (record { parts = longest; fit = record { maker-fits = omega arith; device-fits = omega arith; date-fits = omega arith; serial-fits = omega arith }; given = refl }, refl)
+
+-- ---- 8: document 01's examples 5 and 6
+
+pub example-5 : dateWord 2021 3 15 ≡ 0x526F
+example-5 = refl
+
+-- A/B, P7, that date, serial 17: `A\/B/P7/526f/0011`
+pub example-6 : keyOf (0x41 ∷ 0x2F ∷ 0x42 ∷ []) (0x50 ∷ 0x37 ∷ []) (dateWord 2021 3 15) 17 ≡ 0x41 ∷ 0x5C ∷ 0x2F ∷ 0x42 ∷ 0x2F ∷ 0x50 ∷ 0x37 ∷ 0x2F ∷ 0x35 ∷ 0x32 ∷ 0x36 ∷ 0x66 ∷ 0x2F ∷ 0x30 ∷ 0x30 ∷ 0x31 ∷ 0x31 ∷ []
+unfolding keyOf hexWord
+example-6 = refl

@@ -1,0 +1,1 @@
+// The theorems on pack keys stand in proofs/; this crate has no code.
