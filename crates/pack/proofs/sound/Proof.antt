@@ -1,0 +1,20 @@
+use Rattle.pack.specs.Sound.{soundOf}
+use borrow.Author.Needs.{needs}
+use borrow.Author.Tests.{lt-ltb, le-ltb, le-leb, lt-leb, eq-eqb, ne-eqb, ltb-true, leb-true}
+use native.Mathlib.Omega.{arith}
+use mathlib.Core.Path.{_≡_, refl, ap, _∙_, sym}
+use Rattle.pack.proofs.sound.Statement.{statement}
+use Rattle.pack.proofs.sound.Tie as tie
+
+milliamp-ms-requires : tie.Need-milliamp-ms-requires
+milliamp-ms-requires c κs = search needs
+
+agree-requires : tie.Need-agree-requires
+agree-requires c κs = search needs
+
+returns : tie.Need-returns
+unfolding soundOf
+returns c = simp (c .agree .ensures, c .before .before .before .before .before .before .before .before .before .before .milliamp-ms .ensures .0)
+
+pub sound-spec : {M : Type 1} → statement M
+sound-spec = tie.close (tie.spec milliamp-ms-requires agree-requires returns)
