@@ -1,0 +1,3 @@
+pub mod Registers
+pub mod Status
+pub mod Word

@@ -1,0 +1,59 @@
+-- Document 01, Registers 14 and 16: BatteryStatus bit by bit, and ChargingCurrent, which it cuts off.
+-- Assumes nothing.
+use Prim.Native.Nat.{ℕ, _+_}
+use mathlib.Core.Bool.{Bool, true, false, cond, not, _&&_, _||_}
+use lib.Dec.{ltb, leb, eqb}
+use Rattle.gauge.specs.Registers.{remainingCapacity, averageTimeToEmpty}
+use Rattle.pack.specs.declared.Pack.{Pack}
+use Rattle.words.specs.Capacity.{milliampMs}
+use Rattle.words.specs.Words.{above, below}
+
+-- charge full
+abbrev pub chargeFull : Pack → Bool
+chargeFull p = eqb (p .tank .charge) (milliampMs (p .tank .full))
+
+-- 12 OVER_TEMP: temperature above its limit
+abbrev pub overTemp : Pack → Bool
+overTemp p = ltb (p .settings .TemperatureLimit) (p .latest .temperature)
+
+-- 14 TERMINATE_CHARGE: current above 0 and either charge full or bit 12 set
+abbrev pub terminateCharge : Pack → Bool
+terminateCharge p = above (p .latest .current) && (chargeFull p || overTemp p)
+
+-- 11 TERMINATE_DISCHARGE: current below 0, voltage below its limit
+abbrev pub terminateDischarge : Pack → Bool
+terminateDischarge p = below (p .latest .current) && ltb (p .latest .voltage) (p .settings .DischargeLimit)
+
+-- 9: 01 isn't 0 and 0F is below it
+abbrev pub remainingCapacityLow : Pack → Bool
+remainingCapacityLow p = not (eqb (p .host .RemainingCapacityAlarm) 0) && ltb (remainingCapacity p) (p .host .RemainingCapacityAlarm)
+
+-- 8: 02 isn't 0 and 12 is below it
+abbrev pub remainingTimeLow : Pack → Bool
+remainingTimeLow p = not (eqb (p .host .RemainingTimeAlarm) 0) && ltb (averageTimeToEmpty p) (p .host .RemainingTimeAlarm)
+
+-- 6: current not above 0
+abbrev pub discharging : Pack → Bool
+discharging p = not (above (p .latest .current))
+
+-- 16 BatteryStatus above its error code, high to low: 15 OVER_CHARGED is 0 (house), 13 and 10 are reserved, 7 is 1
+unfoldable pub statusBits : Pack → ℕ
+statusBits p =
+    cond (terminateCharge p) 16384 0 + cond (overTemp p) 4096 0 + cond (terminateDischarge p) 2048 0 + cond (remainingCapacityLow p) 512 0
+    + cond (remainingTimeLow p) 256 0 + 128 + cond (discharging p) 64 0 + cond (chargeFull p) 32 0 + cond (p .tank .FullyDischarged) 16 0
+
+-- 16 BatteryStatus: the bits with the error code as the low four
+abbrev pub batteryStatus : Pack → ℕ → ℕ
+batteryStatus p code = statusBits p + code
+
+-- 14 ChargingCurrent: the setting, 0 while TERMINATE_CHARGE_ALARM is set
+abbrev pub chargingCurrent : Pack → ℕ
+chargingCurrent p = cond (terminateCharge p) 0 (p .settings .ChargingCurrent)
+
+-- any of the alarm bits 15, 14, 12, 11, 9, 8
+abbrev pub anyAlarm : Pack → Bool
+anyAlarm p = terminateCharge p || overTemp p || terminateDischarge p || remainingCapacityLow p || remainingTimeLow p
+
+-- any of the bits 15, 14, 12, which concern the charger
+abbrev pub chargerAlarm : Pack → Bool
+chargerAlarm p = terminateCharge p || overTemp p

@@ -1,0 +1,29 @@
+-- `pack::set_up` meets its contract: refused, or the pack that set-up gives.
+-- Assumes nothing.
+use Rattle.pack.specs.SetUp.{setUpOf}
+use Rattle.pack.proofs.Conditions.{served}
+use borrow.Author.Needs.{needs}
+use mathlib.Core.Path.{_∙_, sym}
+use Rattle.pack.proofs.set_up.Statement.{statement}
+use Rattle.pack.proofs.set_up.Tie as tie
+
+refused-requires : tie.Need-refused-requires
+refused-requires c κs = search needs
+
+zero-requires : tie.Need-zero-requires
+zero-requires c κs = search needs
+
+returns : tie.Need-returns
+unfolding setUpOf
+returns c = simp (c .zero .ensures, ← c .before .before .refused .ensures, c .before .if1 .taken)
+
+pack-of-requires : tie.Need-pack-of-requires
+pack-of-requires c κs = served (c .before .before .args .u) (sym (c .before .refused .ensures) ∙ c .if1 .left) .full
+
+returns-2 : tie.Need-returns-2
+unfolding setUpOf
+returns-2 c = simp (c .pack-of .ensures, ← c .before .before .refused .ensures, c .before .if1 .left)
+
+pub set-up-spec : {M : Type 1} → statement M
+set-up-spec =
+    tie.close (tie.spec refused-requires zero-requires returns pack-of-requires returns-2)

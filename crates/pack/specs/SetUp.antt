@@ -1,0 +1,124 @@
+-- Document 01: what set-up gives. Answer 11 and the all-zero state, or 0 and the state of the first sample.
+-- Assumes nothing.
+use Prim.Native.Nat.{ℕ, _/_}
+use mathlib.Core.Bool.{Bool, false, cond, _||_}
+use lib.Dec.{ltb, eqb}
+use lib.ListN.{replicate, set}
+use mir.Syntax.{w16}
+use mir.Val.{ofZ}
+use Rattle.pack.specs.declared.Host.{Host}
+use Rattle.pack.specs.declared.Kept.{Kept}
+use Rattle.pack.specs.declared.Latest.{Latest}
+use Rattle.pack.specs.declared.Pack.{Pack}
+use Rattle.pack.specs.declared.Sample.{Sample}
+use Rattle.pack.specs.declared.Settings.{Settings}
+use Rattle.pack.specs.declared.Setup.{Setup}
+use Rattle.pack.specs.declared.Started.{Started}
+use Rattle.pack.specs.declared.State.{State}
+use Rattle.pack.specs.declared.Tank.{Tank}
+use Rattle.words.specs.Capacity.{milliampMs, fullyDischargedOf}
+
+-- design capacity, full capacity or design voltage 0, or remaining above full
+abbrev pub setUpRefused : Setup → Bool
+setUpRefused u =
+    eqb (u .DesignCapacity) 0 || eqb (u .full) 0 || eqb (u .DesignVoltage) 0 || ltb (u .full) (u .remaining)
+
+-- what set-up fixes
+abbrev pub settingsOf : Setup → Settings
+settingsOf u =
+    record {
+      DesignCapacity = u .DesignCapacity;
+      DesignVoltage = u .DesignVoltage;
+      MaxError = u .MaxError;
+      ManufactureDate = u .ManufactureDate;
+      SerialNumber = u .SerialNumber;
+      ChargingCurrent = u .ChargingCurrent;
+      ChargingVoltage = u .ChargingVoltage;
+      TemperatureLimit = u .TemperatureLimit;
+      DischargeLimit = u .DischargeLimit;
+    }
+
+-- 00 and 04 first 0; 01 first floor(design/10); 02 first 10; the bits of 03 first 0
+abbrev pub hostOf : Setup → Host
+hostOf u =
+    record {
+      ManufacturerAccess = 0;
+      RemainingCapacityAlarm = u .DesignCapacity / 10;
+      RemainingTimeAlarm = 10;
+      AtRate = 0;
+      AlarmMode = false;
+      ChargerMode = false;
+      CapacityMode = false;
+    }
+
+-- 08, 09, 0A: the latest sample, its signed current as a word
+abbrev pub latestOf : Sample → Latest
+latestOf s = record { voltage = s .voltage; current = ofZ w16 (s .current); temperature = s .temperature; counter = s .counter }
+
+-- set-up counts as the first sample
+abbrev pub keptOf : ℕ → Kept
+keptOf current = record { currents = set (replicate 60 0) 0 current; count = 1 }
+
+-- charge in mA·ms; bit 4 is decided at set-up from clear
+abbrev pub tankOf : Setup → Tank
+tankOf u =
+    record {
+      charge = milliampMs (u .remaining);
+      full = u .full;
+      CycleCount = u .CycleCount;
+      FullyDischarged = fullyDischargedOf false (milliampMs (u .remaining)) (u .full);
+    }
+
+-- the pack that set-up gives: no hold, the alarm timer begins at 10,000, the charger timer at 0
+unfoldable pub packOf : Setup → Sample → Pack
+packOf u first =
+    record {
+      settings = settingsOf u;
+      host = hostOf u;
+      latest = latestOf first;
+      kept = keptOf (latestOf first .current);
+      tank = tankOf u;
+      timers = record { hold = 0; alarm = 10000; charger = 0 };
+    }
+
+-- the all-zero state
+abbrev pub zeroState : State
+zeroState =
+    record {
+      error = 0;
+      pack =
+          record {
+            settings =
+                record {
+                  DesignCapacity = 0;
+                  DesignVoltage = 0;
+                  MaxError = 0;
+                  ManufactureDate = 0;
+                  SerialNumber = 0;
+                  ChargingCurrent = 0;
+                  ChargingVoltage = 0;
+                  TemperatureLimit = 0;
+                  DischargeLimit = 0;
+                };
+            host =
+                record {
+                  ManufacturerAccess = 0;
+                  RemainingCapacityAlarm = 0;
+                  RemainingTimeAlarm = 0;
+                  AtRate = 0;
+                  AlarmMode = false;
+                  ChargerMode = false;
+                  CapacityMode = false;
+                };
+            latest = record { voltage = 0; current = 0; temperature = 0; counter = 0 };
+            kept = record { currents = replicate 60 0; count = 0 };
+            tank = record { charge = 0; full = 0; CycleCount = 0; FullyDischarged = false };
+            timers = record { hold = 0; alarm = 0; charger = 0 };
+          };
+    }
+
+-- 11 and the all-zero state where refused; else 0 and a state with error code 0
+unfoldable pub setUpOf : Setup → Sample → Started
+setUpOf u first =
+    cond (setUpRefused u) (record { answer = 11; state = zeroState })
+    (record { answer = 0; state = record { error = 0; pack = packOf u first } })
