@@ -7,7 +7,7 @@ use native.Mathlib.Nat.{add-zero}
 use native.Mathlib.Numerals.{add-one}
 use native.Mathlib.Omega.{arith}
 use lib.Dec.{eqb}
-use lib.ListN.{length, drop, getD, drop-of-length-le}
+use lib.ListN.{length, drop, getD, length-append, drop-of-length-le}
 use lib.Seq.{drop-cons}
 use borrow.Author.Tests.{eqb-true, ne-eqb}
 use Rattle.key.specs.declared.Scan.{Scan}
@@ -18,24 +18,14 @@ use Rattle.key.specs.Steps.{placed}
 -- ---- a byte at a time
 
 -- one byte more in front moves the place by the bytes it has in the key
-push-plain : (b : ℕ) (r : Name) (at n : ℕ) → marked b ≡ false → placed r (at + 1) (n + 1) ≡ placed (push b r) at n
-push-plain b bad at n e = refl
-push-plain b (ended name) at n e =
+placed-push : (b : ℕ) (r : Name) (at n : ℕ) → placed r (at + length (escapeByte b)) (n + 1) ≡ placed (push b r) at n
+placed-push b bad at n = refl
+placed-push b (ended name) at n =
     let z : n + 1 + length name ≡ n + suc (length name) = omega arith in
     ap End z
-push-plain b (stopped name rest) at n e =
+placed-push b (stopped name rest) at n =
     let z : n + 1 + length name ≡ n + suc (length name) = omega arith in
-    let y : at + 1 + length (escape name) ≡ at + length (escapeByte b ++ escape name) = rw e (omega arith) in
-    ap (λ (i : ℕ). Stroke i (n + 1 + length name)) y ∙ ap (λ (i : ℕ). Stroke (at + length (escapeByte b ++ escape name)) i) z
-
-push-marked : (b : ℕ) (r : Name) (at n : ℕ) → marked b ≡ true → placed r (at + 2) (n + 1) ≡ placed (push b r) at n
-push-marked b bad at n e = refl
-push-marked b (ended name) at n e =
-    let z : n + 1 + length name ≡ n + suc (length name) = omega arith in
-    ap End z
-push-marked b (stopped name rest) at n e =
-    let z : n + 1 + length name ≡ n + suc (length name) = omega arith in
-    let y : at + 2 + length (escape name) ≡ at + length (escapeByte b ++ escape name) = rw e (omega arith) in
+    let y : at + length (escapeByte b) + length (escape name) ≡ at + length (escapeByte b ++ escape name) = omega (arith, length-append (escapeByte b) (escape name)) in
     ap (λ (i : ℕ). Stroke i (n + 1 + length name)) y ∙ ap (λ (i : ℕ). Stroke (at + length (escapeByte b ++ escape name)) i) z
 
 module _ (k : List ℕ) (at n : ℕ) (h : at < length k) where
@@ -49,16 +39,16 @@ module _ (k : List ℕ) (at n : ℕ) (h : at < length k) where
 
   pub at-other : (getD k at 0 ≡ 47 → ⊥) → (getD k at 0 ≡ 92 → ⊥) → {r : Scan} → r ≡ placed (readPlain (drop (at + 1) k)) (at + 1) (n + 1) → r ≡ placed (readPlain (drop at k)) at n
   at-other x y hr =
-      let m : marked (getD k at 0) ≡ false = simp (ne-eqb _ 47 x, ne-eqb _ 92 y) in
+      let one : length (escapeByte (getD k at 0)) ≡ 1 = simp (ne-eqb _ 47 x, ne-eqb _ 92 y) in
       rw (drop-cons k at 0 h, ne-eqb _ 47 x, ne-eqb _ 92 y)
-      (hr ∙ ap (λ (i : ℕ). placed (readPlain (drop i k)) (at + 1) (n + 1)) (add-one at) ∙ push-plain (getD k at 0) (readPlain (drop (suc at) k)) at n m)
+      (hr ∙ ap (λ (i : ℕ). placed (readPlain (drop i k)) (at + 1) (n + 1)) (add-one at) ∙ rw one at (placed-push (getD k at 0) (readPlain (drop (suc at) k)) at n))
 
   pub esc-marked : marked (getD k at 0) ≡ true → n < at → {r : Scan} → r ≡ placed (readPlain (drop (at + 1) k)) (at + 1) (n + 1) → r ≡ placed (readEscaped (drop at k)) (at - 1) n
   esc-marked m l hr =
       let z : at + 1 ≡ at - 1 + 2 = omega arith in
       rw (drop-cons k at 0 h, m)
       (hr ∙ ap (λ (i : ℕ). placed (readPlain (drop i k)) (at + 1) (n + 1)) (add-one at) ∙ ap (λ (i : ℕ). placed (readPlain (drop (suc at) k)) i (n + 1)) z
-      ∙ push-marked (getD k at 0) (readPlain (drop (suc at) k)) (at - 1) n m)
+      ∙ rw m at (placed-push (getD k at 0) (readPlain (drop (suc at) k)) (at - 1) n))
 
   pub esc-other : marked (getD k at 0) ≡ false → Refused ≡ placed (readEscaped (drop at k)) (at - 1) n
   esc-other m = rw (drop-cons k at 0 h, m)

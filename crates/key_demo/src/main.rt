@@ -64,19 +64,30 @@ fn plain(part: &[u8]) {
     bracket(&room);
 }
 
-// A dash merges these two packs; a name of 33 bytes or a room of 138 is refused.
-fn packs() {
+// A dash merges these two packs.
+fn dashes() {
     dash(b"HAZEL", b"K-12");
     dash(b"HAZEL-K", b"12");
+}
+
+// A pack's key in a room of 139 bytes, as many as a key can have.
+fn pack(maker: &[u8], device: &[u8]) {
     let mut room = [0x2Eu8; 139];
+    write(maker, device, &mut room);
+}
+
+// A room of 138 bytes is refused.
+fn short() {
+    let mut room = [0x2Eu8; 138];
     write(b"HAZEL", b"K-12", &mut room);
-    let mut other = [0x2Eu8; 139];
-    write(b"HAZEL-K", b"12", &mut other);
-    let mut kept = [0x2Eu8; 139];
-    write(b"NNNNNNNNNNNNNNNNNNNNNNNNNNNNNNNNN", b"K-12", &mut kept);
-    write(b"HAZEL", b"NNNNNNNNNNNNNNNNNNNNNNNNNNNNNNNNN", &mut kept);
-    let mut short = [0x2Eu8; 138];
-    write(b"HAZEL", b"K-12", &mut short);
+}
+
+// A name of 33 bytes is refused.
+fn packs() {
+    pack(b"HAZEL", b"K-12");
+    pack(b"HAZEL-K", b"12");
+    pack(b"NNNNNNNNNNNNNNNNNNNNNNNNNNNNNNNNN", b"K-12");
+    pack(b"HAZEL", b"NNNNNNNNNNNNNNNNNNNNNNNNNNNNNNNNN");
 }
 
 fn keys() {
@@ -87,27 +98,38 @@ fn keys() {
     read(b"NNNNNNNNNNNNNNNNNNNNNNNNNNNNNNNN/x/0000/0000");
 }
 
-// No bytes; an escape mark last; three parts and five; a byte more and one less; an escape before another byte; a name of 33 bytes.
-fn no_keys() {
+// No bytes; an escape mark last, in either name; an escape before another byte.
+fn bad_names() {
     read(b"");
     read(b"A\\");
     read(b"A/B\\");
+    read(b"A\\B/C/526f/0011");
+}
+
+// Three parts and five; a byte more and one less.
+fn bad_parts() {
     read(b"A/B/526f");
     read(b"A/B/526f/0011/C");
     read(b"A/B/526f/00110");
     read(b"A/B/526f/001");
-    read(b"A\\B/C/526f/0011");
+}
+
+// A dash for the last 2F, and names of 33 bytes.
+fn bad_joins() {
     read(b"A/B/526f-0011");
     read(b"NNNNNNNNNNNNNNNNNNNNNNNNNNNNNNNNN/x/0000/0000");
     read(b"x/NNNNNNNNNNNNNNNNNNNNNNNNNNNNNNNNN/0000/0000");
 }
 
-// Only the lower-case letters up to `f` are digits.
-fn no_digits() {
+// Upper-case letters are no digits of the date, nor of the serial.
+fn bad_dates() {
     read(b"A/B/A000/0000");
     read(b"A/B/0B00/0000");
     read(b"A/B/00C0/0000");
     read(b"A/B/000D/0000");
+}
+
+fn bad_serials() {
     read(b"A/B/0000/E000");
     read(b"A/B/0000/0F00");
     read(b"A/B/0000/00G0");
@@ -117,19 +139,21 @@ fn no_digits() {
 // A bare 2F, an escape mark last, an escape before another byte, and a room that just holds the name.
 fn names() {
     plain(b"A/B");
-    line();
     plain(b"A\\");
-    line();
     plain(b"\\A");
-    line();
     plain(b"HAZE");
-    line();
 }
 
 fn main() {
+    dashes();
     packs();
+    short();
     keys();
-    no_keys();
-    no_digits();
+    bad_names();
+    bad_parts();
+    bad_joins();
+    bad_dates();
+    bad_serials();
     names();
+    line();
 }
