@@ -3,7 +3,7 @@
 use Prim.Native.Nat.{ℕ, _+_}
 use mathlib.Core.Bool.{Bool, true, false, cond, not, _&&_, _||_}
 use lib.Dec.{ltb, leb, eqb}
-use Rattle.gauge.specs.Registers.{remainingCapacity, averageTimeToEmpty}
+use Rattle.registers.specs.Registers.{remainingCapacity, averageTimeToEmpty}
 use Rattle.pack.specs.declared.Pack.{Pack}
 use Rattle.words.specs.Capacity.{milliampMs}
 use Rattle.words.specs.Words.{above, below}

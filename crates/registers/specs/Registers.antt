@@ -1,12 +1,12 @@
 -- Document 01, Registers: the words that are numbers of their own, each a function of the pack without its error code.
 -- Assumes nothing.
 use Prim.Native.Nat.{ℕ, _+_, _-_, _*_, _/_, min}
-use mathlib.Core.Bool.{Bool, true, false, cond}
-use lib.Dec.{ltb, leb, eqb}
+use mathlib.Core.Bool.{Bool, cond}
+use lib.Dec.{leb}
 use Rattle.average.specs.Average.{averageOf}
 use Rattle.pack.specs.declared.Host.{Host}
 use Rattle.pack.specs.declared.Pack.{Pack}
-use Rattle.words.specs.Capacity.{minutesOf, powerOf, energyOf, cappedWord, milliampMs, percentOf, relativeOf}
+use Rattle.words.specs.Capacity.{minutesOf, powerOf, energyOf, cappedWord, percentOf, relativeOf}
 use Rattle.words.specs.Words.{above, below, sizeOf}
 
 -- 03 BatteryMode: bits 13 ALARM_MODE, 14 CHARGER_MODE, 15 CAPACITY_MODE; others read 0
