@@ -1,9 +1,9 @@
 // The words that are numbers of their own: pure functions of the pack. Only our own crates call these.
 ghost use mathlib.Core.Path.{_≡_};
 ghost use mathlib.Core.Bool.{cond};
-ghost use Prim.Native.Nat.{_*_, _≤_, _<_};
-ghost use Rattle.average.specs.Average.{averageOf};
-ghost use Rattle.registers.specs.Registers.{batteryMode, capacityOf, remainingCapacity, fullChargeCapacity, designCapacity, relativeStateOfCharge, absoluteStateOfCharge, minutesIf, missing, atRateTimeToEmpty, atRateTimeToFull, presentDischarge, covers, atRateOK, rateOf, timeToEmptyAt, runTimeToEmpty};
+ghost use Prim.Native.Nat.{_≤_, _<_};
+ghost use Rattle.registers.specs.Registers.{batteryMode, capacityOf, remainingCapacity, fullChargeCapacity, designCapacity, relativeStateOfCharge, absoluteStateOfCharge, minutesIf, missing, atRateTimeToEmpty, atRateTimeToFull, presentDischarge, covers, atRateOK, rateOf, timeToEmptyAt, runTimeToEmpty, averageTimeToEmpty, averageTimeToFull};
+ghost use Rattle.words.specs.Capacity.{milliampMs};
 use pack::Host;
 use pack::Pack;
 
@@ -32,7 +32,7 @@ fn capacity_of(p: Pack, capacity: u16) -> u16
 
 // 0F.
 pub fn remaining_capacity(p: Pack) -> u16
-    requires { ⌜ p .tank .charge ≤ 65535 * 3600000 ⌝ }
+    requires { ⌜ p .tank .charge ≤ milliampMs (p .tank .full) ⌝ }
     ensures { λ r. ⌜ r ≡ remainingCapacity p ⌝ }
 {
     if p.host.CapacityMode {
@@ -57,7 +57,7 @@ pub fn design_capacity(p: Pack) -> u16
 
 // 0D.
 pub fn relative_state_of_charge(p: Pack) -> u16
-    requires { ⌜ (p .tank .charge ≤ 65535 * 3600000) × (0 < p .tank .full) ⌝ }
+    requires { ⌜ (p .tank .charge ≤ milliampMs (p .tank .full)) × (0 < p .tank .full) ⌝ }
     ensures { λ r. ⌜ r ≡ relativeStateOfCharge p ⌝ }
 {
     words::relative(p.tank.charge, p.tank.full)
@@ -65,7 +65,7 @@ pub fn relative_state_of_charge(p: Pack) -> u16
 
 // 0E.
 pub fn absolute_state_of_charge(p: Pack) -> u16
-    requires { ⌜ (p .tank .charge ≤ 65535 * 3600000) × (0 < p .settings .DesignCapacity) ⌝ }
+    requires { ⌜ (p .tank .charge ≤ milliampMs (p .tank .full)) × (0 < p .settings .DesignCapacity) ⌝ }
     ensures { λ r. ⌜ r ≡ absoluteStateOfCharge p ⌝ }
 {
     words::capped(words::percent(p.tank.charge, p.settings.DesignCapacity))
@@ -82,13 +82,37 @@ fn minutes_if(flows: bool, capacity: u16, rate: u32) -> u16
 
 // 06.
 pub fn at_rate_time_to_empty(p: Pack) -> u16
-    requires { ⌜ p .tank .charge ≤ 65535 * 3600000 ⌝ }
+    requires { ⌜ p .tank .charge ≤ milliampMs (p .tank .full) ⌝ }
     ensures { λ r. ⌜ r ≡ atRateTimeToEmpty p ⌝ }
 {
     let flows = words::falls(p.host.AtRate);
     let remaining = remaining_capacity(p);
     let rate = words::size(p.host.AtRate);
     minutes_if(flows, remaining, rate)
+}
+
+// Full minus remaining, of the words 10 and 0F.
+fn missing_capacity(p: Pack) -> u16
+    requires { ⌜ p .tank .charge ≤ milliampMs (p .tank .full) ⌝ }
+    ensures { λ r. ⌜ r ≡ missing p ⌝ }
+{
+    let full = full_charge_capacity(p);
+    let remaining = remaining_capacity(p);
+    full - remaining
+}
+
+// 05.
+pub fn at_rate_time_to_full(p: Pack) -> u16
+    requires { ⌜ p .tank .charge ≤ milliampMs (p .tank .full) ⌝ }
+    ensures { λ r. ⌜ r ≡ atRateTimeToFull p ⌝ }
+{
+    if p.host.CapacityMode {
+        return 65535;
+    }
+    let flows = words::rises(p.host.AtRate);
+    let left = missing_capacity(p);
+    let rate = words::size(p.host.AtRate);
+    minutes_if(flows, left, rate)
 }
 
 // The mA of the present discharge.
@@ -104,7 +128,7 @@ fn present_discharge(p: Pack) -> u32
 
 // Whether charge covers 10 s of the rate beside the present discharge.
 fn covers_it(p: Pack) -> bool
-    requires { ⌜ p .tank .charge ≤ 65535 * 3600000 ⌝ }
+    requires { ⌜ p .tank .charge ≤ milliampMs (p .tank .full) ⌝ }
     ensures { λ r. ⌜ r ≡ covers p ⌝ }
 {
     let rate = words::size(p.host.AtRate) as u64;
@@ -119,7 +143,7 @@ fn covers_it(p: Pack) -> bool
 
 // 07.
 pub fn at_rate_ok(p: Pack) -> u16
-    requires { ⌜ p .tank .charge ≤ 65535 * 3600000 ⌝ }
+    requires { ⌜ p .tank .charge ≤ milliampMs (p .tank .full) ⌝ }
     ensures { λ r. ⌜ r ≡ atRateOK p ⌝ }
 {
     if words::falls(p.host.AtRate) {
@@ -140,7 +164,7 @@ fn rate_of(p: Pack, current: u16) -> u32
 }
 
 fn time_to_empty_at(p: Pack, current: u16) -> u16
-    requires { ⌜ p .tank .charge ≤ 65535 * 3600000 ⌝ }
+    requires { ⌜ p .tank .charge ≤ milliampMs (p .tank .full) ⌝ }
     ensures { λ r. ⌜ r ≡ timeToEmptyAt p current ⌝ }
 {
     let flows = words::falls(current);
@@ -151,8 +175,30 @@ fn time_to_empty_at(p: Pack, current: u16) -> u16
 
 // 11.
 pub fn run_time_to_empty(p: Pack) -> u16
-    requires { ⌜ p .tank .charge ≤ 65535 * 3600000 ⌝ }
+    requires { ⌜ p .tank .charge ≤ milliampMs (p .tank .full) ⌝ }
     ensures { λ r. ⌜ r ≡ runTimeToEmpty p ⌝ }
 {
     time_to_empty_at(p, p.latest.current)
+}
+
+// 12.
+pub fn average_time_to_empty(p: Pack) -> u16
+    requires { ⌜ (p .tank .charge ≤ milliampMs (p .tank .full)) × (1 ≤ p .kept .count) × (p .kept .count ≤ 60) ⌝ }
+    ensures { λ r. ⌜ r ≡ averageTimeToEmpty p ⌝ }
+{
+    let kept = p.kept;
+    time_to_empty_at(p, average::average(kept))
+}
+
+// 13.
+pub fn average_time_to_full(p: Pack) -> u16
+    requires { ⌜ (p .tank .charge ≤ milliampMs (p .tank .full)) × (1 ≤ p .kept .count) × (p .kept .count ≤ 60) ⌝ }
+    ensures { λ r. ⌜ r ≡ averageTimeToFull p ⌝ }
+{
+    let kept = p.kept;
+    let current = average::average(kept);
+    let flows = words::rises(current);
+    let left = missing_capacity(p);
+    let rate = rate_of(p, current);
+    minutes_if(flows, left, rate)
 }
