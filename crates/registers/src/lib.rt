@@ -2,12 +2,13 @@
 ghost use mathlib.Core.Path.{_≡_};
 ghost use mathlib.Core.Bool.{cond};
 ghost use Prim.Native.Nat.{_≤_, _<_};
-ghost use Rattle.registers.specs.Registers.{batteryMode, capacityOf, remainingCapacity, fullChargeCapacity, designCapacity, relativeStateOfCharge, absoluteStateOfCharge, minutesIf, missing, atRateTimeToEmpty, atRateTimeToFull, presentDischarge, covers, atRateOK, rateOf, timeToEmptyAt, runTimeToEmpty, averageTimeToEmpty, averageTimeToFull};
+ghost use Rattle.registers.specs.Registers.{Measured, batteryMode, capacityOf, remainingCapacity, fullChargeCapacity, designCapacity, relativeStateOfCharge, absoluteStateOfCharge, minutesIf, missing, atRateTimeToEmpty, atRateTimeToFull, presentDischarge, covers, atRateOK, rateOf, timeToEmptyAt, runTimeToEmpty, averageTimeToEmpty, averageTimeToFull};
 ghost use Rattle.words.specs.Capacity.{milliampMs};
 use pack::Host;
 use pack::Pack;
 
-fn flag(on: bool, weight: u16) -> u16
+// What a bit of this weight adds to a word.
+pub fn flag(on: bool, weight: u16) -> u16
     ensures is { λ r. ⌜ r ≡ cond on weight 0 ⌝ }
     ensures small { λ r. ⌜ r ≤ weight ⌝ }
 {
@@ -183,7 +184,7 @@ pub fn run_time_to_empty(p: Pack) -> u16
 
 // 12.
 pub fn average_time_to_empty(p: Pack) -> u16
-    requires { ⌜ (p .tank .charge ≤ milliampMs (p .tank .full)) × (1 ≤ p .kept .count) × (p .kept .count ≤ 60) ⌝ }
+    requires { ⌜ Measured p ⌝ }
     ensures { λ r. ⌜ r ≡ averageTimeToEmpty p ⌝ }
 {
     let kept = p.kept;
@@ -192,7 +193,7 @@ pub fn average_time_to_empty(p: Pack) -> u16
 
 // 13.
 pub fn average_time_to_full(p: Pack) -> u16
-    requires { ⌜ (p .tank .charge ≤ milliampMs (p .tank .full)) × (1 ≤ p .kept .count) × (p .kept .count ≤ 60) ⌝ }
+    requires { ⌜ Measured p ⌝ }
     ensures { λ r. ⌜ r ≡ averageTimeToFull p ⌝ }
 {
     let kept = p.kept;
