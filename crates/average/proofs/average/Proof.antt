@@ -1,7 +1,7 @@
 -- `average::average` meets its contract: the kept words summed, then divided by their count.
 -- Assumes nothing.
 use borrow.Author.Needs.{needs}
-use mathlib.Core.Path.{_≡_, ap, _∙_}
+use mathlib.Core.Path.{ap, _∙_}
 use lib.IntN.{ℤ, pos}
 use lib.Signed.{quotZ}
 use mir.Syntax.{w16}

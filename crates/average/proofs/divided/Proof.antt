@@ -3,7 +3,7 @@
 use Prim.Native.Nat.{ℕ}
 use borrow.Author.Needs.{needs}
 use native.Mathlib.Omega.{arith}
-use mathlib.Core.Path.{_≡_, ap, _∙_, sym}
+use mathlib.Core.Path.{ap, _∙_, sym}
 use lib.IntN.{pos, negℤ}
 use mir.Syntax.{w16}
 use mir.Val.{ofZ}

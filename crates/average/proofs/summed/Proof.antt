@@ -1,6 +1,6 @@
 -- `average::summed` meets its contract. The loop's invariant: the sum of the first i words, each side at most 32,768 for each.
 -- The measure is what is left of the count. Assumes nothing.
-use Prim.Native.Nat.{ℕ, suc, _≤_, _*_, _-_, _+_}
+use Prim.Native.Nat.{ℕ, _≤_, _*_, _-_, _+_}
 use borrow.Author.Needs.{needs}
 use native.Mathlib.Omega.{arith}
 use native.Mathlib.Nat.{le-antisymm}
