@@ -1,11 +1,11 @@
 -- Every word is below 65,536.
 -- Assumes nothing.
-use Prim.Native.Nat.{ℕ, _+_, _<_, _≤_}
+use Prim.Native.Nat.{ℕ, _<_}
 use mathlib.Core.Bool.{Bool, true, false, cond}
 use mathlib.Core.Path.{_≡_}
 use native.Mathlib.Omega.{arith}
 use lib.Dec.{eqb}
-use lib.ListN.{getD}
+use Rattle.average.proofs.Bound.{average-word}
 use Rattle.average.specs.Average.{averageOf}
 use Rattle.gauge.proofs.Bits.{status-most}
 use Rattle.gauge.specs.Status.{terminateCharge}
@@ -15,7 +15,6 @@ use Rattle.pack.specs.Sound.{soundOf}
 use Rattle.pack.specs.declared.Pack.{Pack}
 use Rattle.pack.specs.declared.State.{State}
 use Rattle.registers.proofs.Laws.{remaining-at-most-full, capacity-word, minutes-word, to-full-word, ok-word, mode-word}
-use Rattle.registers.proofs.Mean.{average-word}
 use Rattle.registers.specs.Registers.{remainingCapacity, fullChargeCapacity, designCapacity, minutesIf, missing, rateOf}
 use Rattle.words.specs.Words.{above, below, sizeOf}
 
@@ -28,7 +27,6 @@ pub record Fits (p : Pack) : Type 0 where
   pub temperature : p .latest .temperature < 65536
   pub voltage : p .latest .voltage < 65536
   pub current : p .latest .current < 65536
-  pub currents : (i : ℕ) → getD (p .kept .currents) i 0 < 65536
   pub full : p .tank .full < 65536
   pub CycleCount : p .tank .CycleCount < 65536
   pub DesignCapacity : p .settings .DesignCapacity < 65536
@@ -71,7 +69,7 @@ word-below s command h f =
     (either (eqb command 8) _ _ (f .temperature)
     (either (eqb command 9) _ _ (f .voltage)
     (either (eqb command 10) _ _ (f .current)
-    (either (eqb command 11) _ _ (average-word (p .kept) (f .currents))
+    (either (eqb command 11) _ _ (average-word (p .kept))
     (either (eqb command 12) _ _ (f .MaxError)
     (either (eqb command 13) _ _ (omega arith)
     (either (eqb command 14) _ _ (omega arith)
