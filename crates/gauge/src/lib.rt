@@ -1,7 +1,7 @@
 // The word of every register, and the alarms that samples broadcast. Only our own crates call these.
 ghost use mathlib.Core.Path.{_≡_};
 ghost use mathlib.Core.Bool.{true};
-ghost use Prim.Native.Nat.{_+_, _%_, _≤_};
+ghost use Prim.Native.Nat.{_≤_};
 ghost use Rattle.gauge.specs.Status.{chargeFull, overTemp, terminateCharge, terminateDischarge, remainingCapacityLow, remainingTimeLow, discharging, statusBits, batteryStatus, alarmWord, chargingCurrent, chargerAlarm, anyAlarm};
 ghost use Rattle.average.specs.Average.{averageOf};
 ghost use Rattle.gauge.specs.Word.{wordOf};
