@@ -71,7 +71,7 @@ pub fn put_word(room: &mut [u8], request: &[u8], w: u16) -> usize
     let low = words::low(w);
     let high = words::high(w);
     let start = pec::pec(request);
-    let check = pec::pec_step(pec::pec_step(start, low), high);
+    let check = pec::pec_from(start, &[low, high]);
     room[0] = low;
     room[1] = high;
     room[2] = check;
@@ -88,7 +88,7 @@ pub fn put_block(room: &mut [u8], request: &[u8], text: &[u8]) -> usize
     let last = n + 1;
     let count = n as u8;
     let start = pec::pec(request);
-    let check = pec::pec_from(pec::pec_step(start, count), text);
+    let check = pec::pec_from(pec::pec_from(start, &[count]), text);
     room[0] = count;
     room[last] = check;
     bytes::copy(text, &mut room[1..]);
