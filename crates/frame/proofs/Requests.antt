@@ -24,15 +24,20 @@ use Rattle.frame.proofs.Replies.{ends-right, last-is}
 abbrev first : Bool → Bool → Bool → Request → Request
 first three four five asked = cond three (Refused 3) (cond four (Refused 4) (cond five (Refused 5) asked))
 
+-- what is asked for
 abbrev asked : Bool → List ℕ → Request
 asked read bytes = cond read (Read (getD bytes 1 0)) (writeOf bytes (eqb (length bytes) 5))
+
+-- and that is no refusal
+asked-served : (read : Bool) (bytes : List ℕ) (n : ℕ) → asked read bytes ≡ Refused n → ⊥
+asked-served true bytes n e = let z : _≡_ {A = ℕ} 0 1 = cc in omega arith
+asked-served false bytes n e = let z : _≡_ {A = ℕ} 0 1 = cc in omega arith
 
 lowest : (three four five read : Bool) (bytes : List ℕ) (n : ℕ) → first three four five (asked read bytes) ≡ Refused n → Lowest three four five n
 lowest true four five read bytes n e = inl (cc, refl)
 lowest false true five read bytes n e = inr (inl (cc, refl, refl))
 lowest false false true read bytes n e = inr (inr (cc, refl, refl, refl))
-lowest false false false true bytes n e = let z : _≡_ {A = ℕ} 0 1 = cc in absurd (omega arith)
-lowest false false false false bytes n e = let z : _≡_ {A = ℕ} 0 1 = cc in absurd (omega arith)
+lowest false false false read bytes n e = absurd (asked-served read bytes n e)
 
 refused : (three four five : Bool) (a : Request) (n : ℕ) → Lowest three four five n → first three four five a ≡ Refused n
 refused three four five a n (inl (e, t)) = simp t (ap Refused (sym e))
