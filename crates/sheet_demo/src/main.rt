@@ -21,7 +21,7 @@ fn text_line(bytes: &[u8]) {
 }
 
 // The answer and the length, then the room's first 18 bytes.
-fn written(wrote: sheet::Wrote, room: &[u8]) {
+fn written(wrote: sheet_writer::Wrote, room: &[u8]) {
     io::print_decimal(OUT, wide(wrote.answer));
     io::write_all(OUT, b" ");
     io::print_decimal(OUT, wrote.length as u64);
@@ -36,14 +36,54 @@ fn writing() {
     let long = [0x41u8; 33];
     let mut room = [0xEEu8; 145];
     let mut small = [0xEEu8; 144];
-    let served = sheet::write_sheet(&mut room, true, b"Acme", false, b"?", true, b"LION", false, b"");
+    let served = sheet_writer::write_sheet(
+        &mut room,
+        true,
+        b"Acme",
+        false,
+        b"?",
+        true,
+        b"LION",
+        false,
+        b"",
+    );
     written(served, &room);
-    let refused = sheet::write_sheet(&mut small, true, b"Acme", false, b"", true, b"LION", false, b"");
+    let refused = sheet_writer::write_sheet(
+        &mut small,
+        true,
+        b"Acme",
+        false,
+        b"",
+        true,
+        b"LION",
+        false,
+        b"",
+    );
     written(refused, &small);
     let mut other = [0xEEu8; 145];
-    let over = sheet::write_sheet(&mut other, true, b"Acme", true, &long, true, b"LION", false, b"");
+    let over = sheet_writer::write_sheet(
+        &mut other,
+        true,
+        b"Acme",
+        true,
+        &long,
+        true,
+        b"LION",
+        false,
+        b"",
+    );
     written(over, &other);
-    let absent = sheet::write_sheet(&mut other, true, b"", false, &long, false, b"", false, b"");
+    let absent = sheet_writer::write_sheet(
+        &mut other,
+        true,
+        b"",
+        false,
+        &long,
+        false,
+        b"",
+        false,
+        b"",
+    );
     written(absent, &other);
 }
 
@@ -80,7 +120,10 @@ fn contents() {
     verdict(b"no bodies", b"\x00");
     verdict(b"an empty body", b"\x01\x23\x00\x05\x00");
     verdict(b"no bytes", b"");
-    verdict(b"n is 5", b"\x05\x20\x00\x15\x00\x21\x00\x15\x00\x22\x00\x15\x00\x23\x00\x15\x00\x23\x00\x15\x00");
+    verdict(
+        b"n is 5",
+        b"\x05\x20\x00\x15\x00\x21\x00\x15\x00\x22\x00\x15\x00\x23\x00\x15\x00\x23\x00\x15\x00",
+    );
     verdict(b"a row cut short", b"\x01\x20\x00\x05");
     verdict(b"tag 1F", b"\x01\x1f\x01\x05\x00a");
     verdict(b"tag 24", b"\x01\x24\x01\x05\x00a");
@@ -89,13 +132,25 @@ fn contents() {
 }
 
 fn bodies() {
-    verdict(b"32 bytes", b"\x01\x20\x20\x05\x00abcdefghijklmnopqrstuvwxyz012345");
-    verdict(b"33 bytes", b"\x01\x20\x21\x05\x00abcdefghijklmnopqrstuvwxyz0123456");
+    verdict(
+        b"32 bytes",
+        b"\x01\x20\x20\x05\x00abcdefghijklmnopqrstuvwxyz012345",
+    );
+    verdict(
+        b"33 bytes",
+        b"\x01\x20\x21\x05\x00abcdefghijklmnopqrstuvwxyz0123456",
+    );
     verdict(b"a gap", b"\x02\x20\x01\x09\x00\x22\x02\x0b\x00a-bc");
     verdict(b"bodies overlap", b"\x02\x20\x01\x09\x00\x22\x02\x09\x00ab");
     verdict(b"a high byte", b"\x02\x20\x01\x09\x00\x22\x02\x0a\x01abc");
-    verdict(b"bytes after the last body", b"\x02\x20\x01\x09\x00\x22\x02\x0a\x00abcd");
-    verdict(b"the last body cut short", b"\x02\x20\x01\x09\x00\x22\x02\x0a\x00ab");
+    verdict(
+        b"bytes after the last body",
+        b"\x02\x20\x01\x09\x00\x22\x02\x0a\x00abcd",
+    );
+    verdict(
+        b"the last body cut short",
+        b"\x02\x20\x01\x09\x00\x22\x02\x0a\x00ab",
+    );
 }
 
 fn main() {

@@ -13,7 +13,7 @@ use Rattle.sheet.specs.declared.Found.{Found}
 use Rattle.sheet.specs.declared.Found.the-variants.{At, Nothing}
 use Rattle.sheet.specs.Sheet.{Entry, rowsOf, contentsOf, bodiesOf, Choice, listed, sheetOf, tagAt, lengthAt, offsetAt}
 use Rattle.sheet.specs.Block.{findRow, findIn, between, foundIn, bodyIn}
-use Rattle.sheet.proofs.Laid.{rows-length}
+use Rattle.sheet.proofs.Lengths.{rows-length}
 
 -- ---- the four bytes at the end of p in p ++ (a ∷ b ∷ c ∷ d ∷ r)
 module _ (p r : List ℕ) (a b c d : ℕ) where
