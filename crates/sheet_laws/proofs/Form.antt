@@ -1,18 +1,18 @@
 -- Bytes are a sheet exactly when the writer gives them for some choice. Assumes nothing.
 use mathlib.Core.Path.{_≡_, refl, sym, ap, _∙_}
 use mathlib.Core.Logic.{_↔_}
-use mathlib.Core.Bool.{Bool, true, false, _&&_}
+use mathlib.Core.Bool.{Bool, true, false}
 use mathlib.Core.List.{List, [], _∷_, _++_}
-use mathlib.Core.Option.{Option, none, some}
+use mathlib.Core.Option.{none, some}
 use Prim.Native.Nat.{ℕ, zero, suc, _+_, _*_, _-_, _/_, _%_, _≤_, _<_}
 use native.Mathlib.Omega.{arith}
 use lib.Dec.{eqb, leb}
 use lib.ListN.{length, getD, take, drop, length-append, take-append-drop, length-drop, drop-of-length-le}
 use lib.Seq.{drop-cons, drop-drop, length-take-le}
 use borrow.Author.Tests.{lt-ltb, le-leb, eq-eqb, eqb-true, eqb-false, leb-true}
-use Rattle.sheet.specs.Sheet.{Entry, rowsOf, contentsOf, bodiesOf, Choice, listed, sheetOf, short, tagAt, lengthAt, offsetAt, rowOk, rowsOk, isSheet}
+use Rattle.sheet.specs.Sheet.{Entry, rowsOf, bodiesOf, Choice, listed, sheetOf, short, tagAt, lengthAt, rowOk, rowsOk, isSheet}
 use Rattle.sheet.proofs.Rows.{both, first-right, reach, contents}
-use Rattle.sheet.proofs.Lengths.{rows-length, few-listed, sheet-length}
+use Rattle.sheet.proofs.Lengths.{few-listed, sheet-length}
 use Rattle.sheet_laws.specs.Written.{Written, Bytes}
 use Rattle.sheet_laws.proofs.ReadBack.{tag-is, length-is, offset-is, past, past-length}
 

@@ -1,11 +1,11 @@
-use mathlib.Core.Path.{_≡_, refl, sym, ap, _∙_}
-use mathlib.Core.List.{List, [], _∷_}
-use Prim.Native.Nat.{ℕ, _+_, _*_, _≤_}
+use mathlib.Core.Path.{_≡_, ap, _∙_}
+use mathlib.Core.List.{[], _∷_}
+use Prim.Native.Nat.{ℕ, _+_, _*_}
 use native.Mathlib.Omega.{arith}
 use borrow.Author.Needs.{needs}
 use lib.ListN.{length, set, length-set}
 use lib.Seq.{sets}
-use Rattle.sheet.specs.Sheet.{rowsOf, contentsOf, listed}
+use Rattle.sheet.specs.Sheet.{rowsOf, listed}
 use Rattle.sheet_writer.specs.Writing.{chosen, choice}
 use Rattle.sheet_writer.proofs.Laid.{Shorts, shorts, one-listed, next-row}
 use Rattle.sheet_writer.proofs.put_rows.Statement.{statement}
