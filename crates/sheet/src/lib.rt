@@ -1,0 +1,125 @@
+// Pack sheets: the test for one, and the block names that two sheets give.
+ghost use mathlib.Core.Path.{_≡_};
+ghost use mathlib.Core.Bool.{true};
+ghost use Prim.Native.Nat.{_+_, _*_, _<_, _≤_};
+ghost use lib.ListN.{length};
+ghost use denote.Ref.{ptr};
+ghost use Rattle.sheet.specs.Sheet.{rowOk, isSheet};
+ghost use Rattle.sheet.specs.Block.{findIn, partOf, placeOf, blockOf, blockAnswer};
+
+// Where the body of a tag lies in a sheet: from its first byte to past its last.
+pub enum Found {
+    At(usize, usize),
+    Nothing,
+}
+
+fn wide(x: u8) -> usize
+    ensures { λ r. ⌜ (r ≡ x) × (r < 256) ⌝ }
+{
+    x as usize
+}
+
+// A row's offset: two bytes, low first.
+fn offset(low: u8, high: u8) -> usize
+    ensures { λ r. ⌜ (r ≡ low + 256 * high) × (r < 65536) ⌝ }
+{
+    wide(low) + 256 * wide(high)
+}
+
+// Whether the row that starts at `at` may stand where the tags from `low` on are free and the body before it ends at `end`.
+fn row_ok(s: &[u8], at: usize, low: usize, end: usize) -> bool
+    requires { ⌜ at + 4 ≤ length (now s) ⌝ }
+    ensures { λ r. ⌜ r ≡ rowOk (now (s .entry)) at low end ⌝ }
+{
+    if wide(s[at]) < low {
+        return false;
+    }
+    if 0x23 < s[at] {
+        return false;
+    }
+    if 32 < s[at + 1] {
+        return false;
+    }
+    offset(s[at + 2], s[at + 3]) == end
+}
+
+// Whether bytes are a sheet.
+pub fn is_sheet(bytes: &[u8]) -> bool
+    ensures { λ r. ⌜ r ≡ isSheet (now (bytes .entry)) ⌝ }
+{
+    let size = bytes.len();
+    if size == 0 {
+        return false;
+    }
+    let n = wide(bytes[0]);
+    if 4 < n {
+        return false;
+    }
+    let first = 1 + 4 * n;
+    if size < first {
+        return false;
+    }
+    let mut i = 0;
+    let mut at: usize = 1;
+    let mut low: usize = 0x20;
+    let mut end = first;
+    while i < n {
+        if !row_ok(bytes, at, low, end) {
+            return false;
+        }
+        low = wide(bytes[at]) + 1;
+        end += wide(bytes[at + 1]);
+        at += 4;
+        i += 1;
+    }
+    end == size
+}
+
+// Where a sheet has the body of a tag.
+fn find(sheet: &[u8], tag: u8) -> Found
+    requires { ⌜ isSheet (now sheet) ≡ true ⌝ }
+    ensures { λ r. ⌜ r ≡ findIn (now (sheet .entry)) tag ⌝ }
+{
+    let n = wide(sheet[0]);
+    let mut i = 0;
+    let mut at: usize = 1;
+    while i < n {
+        if sheet[at] == tag {
+            let start = offset(sheet[at + 2], sheet[at + 3]);
+            return Found::At(start, start + wide(sheet[at + 1]));
+        }
+        at += 4;
+        i += 1;
+    }
+    Found::Nothing
+}
+
+// The answer number of a block name: 9 where a sheet is bad.
+pub fn block_answer(service: &[u8], factory: &[u8]) -> u8
+    ensures { λ r. ⌜ r ≡ blockAnswer (now (service .entry)) (now (factory .entry)) ⌝ }
+{
+    if is_sheet(service) & is_sheet(factory) {
+        return 0;
+    }
+    9
+}
+
+// The block name of a tag, as a part of the sheet that it comes from.
+pub fn block<'a>(service: &'a [u8], factory: &'a [u8], tag: u8) -> &'a [u8]
+    ensures { λ r. ⌜ now r ≡ blockOf (now (service .entry)) (now (factory .entry)) tag ⌝ }
+    ensures { λ r. ⌜ ptr r ≡ placeOf (partOf (now (service .entry)) (now (factory .entry)) tag) (ptr (service .entry)) (ptr (factory .entry)) ⌝ }
+{
+    if !is_sheet(service) {
+        return &factory[0..0];
+    }
+    if !is_sheet(factory) {
+        return &factory[0..0];
+    }
+    match find(service, tag) {
+        Found::At(start, end) => &service[start..end],
+        Found::Nothing => match find(factory, tag) {
+            Found::At(start, end) => &factory[start..end],
+            Found::Nothing => &factory[0..0],
+        },
+    }
+}
