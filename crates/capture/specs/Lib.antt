@@ -1,0 +1,3 @@
+pub mod Capture
+pub mod Walk
+pub mod Writer
