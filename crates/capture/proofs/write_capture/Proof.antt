@@ -53,7 +53,7 @@ add-t9 c = let a = c .before .before .before .before .before .before .before .be
     omega arith
 
 same-length : tie.Need-same-length
-same-length c = c .before .before .put-bodies .kept .1 .0 ∙ c .before .before .before .before .before .before .put-rows .kept .1 .1 .0 ∙ length-set _ _ _
+same-length c = c .before .before .put-bodies .kept .1 .0 ∙ c .before .before .before .before .before .before .put-rows .kept .1 .1 .0 ∙ length-set (c .before .before .before .before .before .before .before .before .before .before .before .before .before .before .before .before .args .room .now) 0 (length (c .before .before .before .before .before .before .before .before .before .before .before .before .before .before .before .before .args .marks .now))
 
 returns-3 : tie.Need-returns-3
 returns-3 c = served (c .before .before .before .before .before .before .before .before .before .before .before .before .before .before .before .before .args .marks .now) (c .before .before .before .before .before .before .before .before .before .before .before .before .before .before .before .before .args .lengths .now) (c .before .before .before .before .before .before .before .before .before .before .before .before .before .before .before .before .args .bodies .now) (c .before .before .before .before .before .before .before .before .before .before .before .before .before .before .before .before .args .room .now) (sym (c .before .before .before .before .before .before .before .before .before .before .before .holds .ensures) ∙ not-false _ (c .before .before .before .before .before .before .before .before .before .before .if1 .left)) (sym (c .before .before .before .before .before .before .before .before .before .fit .ensures) ∙ not-false _ (c .before .before .before .before .before .before .before .before .if2 .left)) (c .before .before .before .before .before .before .put-rows .ensures) (c .before .before .put-bodies .ensures)
