@@ -4,14 +4,15 @@ use mathlib.Core.Bool.{Bool, true, false, cond, _&&_}
 use mathlib.Core.List.{List, []}
 use Prim.Native.Nat.{ℕ, _+_, _-_, _*_, _≤_, _<_}
 use native.Mathlib.Omega.{arith}
+use lib.Dec.{ltb, leb}
 use lib.ListN.{length, take, drop}
-use borrow.Author.Tests.{lt-ltb, le-ltb, le-leb, lt-leb}
+use borrow.Author.Tests.{lt-ltb, le-ltb, le-leb, lt-leb, leb-true}
 use Rattle.capture.specs.declared.Opened.{Opened}
 use Rattle.capture.specs.declared.Step.{Step}
 use Rattle.capture.specs.declared.Step.the-variants.{Next, End, NotCapture}
 use Rattle.capture.specs.Capture.{isCapture, countIn, markIn, lengthIn, placeIn}
 use Rattle.capture.specs.Walk.{openedOf, hasRow, stepAt, bodyAt}
-use Rattle.capture.proofs.Check.{place-start}
+use Rattle.capture.proofs.Check.{both, place-start}
 
 module _ (s : List ℕ) where
   pub opened : (n : ℕ) → isCapture s ≡ true → n ≡ countIn s → record { answer = 0; rows = n; place = 2 * n + 1 } ≡ openedOf s
@@ -63,6 +64,23 @@ end-has false c m r p e = refl
 not-has : (b c : Bool) (m r p : ℕ) → cond b (Next m r p) (cond c End NotCapture) ≡ NotCapture → b ≡ false
 not-has true c m r p e = let z : _≡_ {A = ℕ} 0 1 = cc in absurd (omega arith)
 not-has false c m r p e = refl
+
+-- the next place is past the place, and inside the bytes
+abbrev pub Within : Step → ℕ → ℕ → Type 0
+Within (Next mark row next) place size = (place ≤ next) × (next ≤ size)
+Within End place size = Unit
+Within NotCapture place size = Unit
+
+within-cond : (b c : Bool) (m r place p size : ℕ) → (b ≡ true → (place ≤ p) × (p ≤ size)) → Within (cond b (Next m r p) (cond c End NotCapture)) place size
+within-cond true c m r place p size h = h refl
+within-cond false true m r place p size h = tt
+within-cond false false m r place p size h = tt
+
+pub within : (s : List ℕ) (row place : ℕ) → Within (stepAt s row place) place (length s)
+unfolding stepAt
+within s row place =
+    within-cond (hasRow s row place) (isCapture s) (markIn s row) (row + 1) place (place + lengthIn s row) (length s)
+    (λ h. (omega arith, leb-true (place + lengthIn s row) (length s) (both (isCapture s && ltb row (countIn s)) (leb (place + lengthIn s row) (length s)) h .1)))
 
 module _ (s : List ℕ) (row place : ℕ) {t : Step} (is : t ≡ stepAt s row place) where
   pub body-shown : {m r p : ℕ} → t ≡ Next m r p → take (p - place) (drop place s) ≡ bodyAt s row place

@@ -1,7 +1,7 @@
 -- Reading a capture: its contents, and what stands at a row and a place. Assumes nothing: these are definitions.
 use mathlib.Core.Bool.{Bool, cond, _&&_}
 use mathlib.Core.List.{List, [], _∷_}
-use Prim.Native.Nat.{ℕ, zero, suc, _+_, _*_, _≤_}
+use Prim.Native.Nat.{ℕ, zero, suc, _+_}
 use lib.Dec.{leb, ltb}
 use lib.ListN.{length, take, drop}
 use Rattle.capture.specs.declared.Opened.{Opened}
@@ -48,12 +48,6 @@ abbrev pub placeAfter : Step → ℕ → ℕ
 placeAfter (Next mark row place) old = place
 placeAfter End old = old
 placeAfter NotCapture old = old
-
--- the next place is past the place, and inside the bytes
-abbrev pub Within : Step → ℕ → ℕ → Type 0
-Within (Next mark row next) place size = (place ≤ next) × (next ≤ size)
-Within End place size = Unit
-Within NotCapture place size = Unit
 
 -- a step's row, and then what the rest shows from the next row and place; at the end, none
 abbrev pub follow : Step → List ℕ → (ℕ → ℕ → List Row) → List Row

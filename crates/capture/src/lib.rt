@@ -5,7 +5,7 @@ ghost use lib.Dec.{leb};
 ghost use lib.ListN.{length};
 ghost use lib.Seq.{sets};
 ghost use Rattle.capture.specs.Capture.{isCapture};
-ghost use Rattle.capture.specs.Walk.{openedOf, stepAt, bodyAt, Within};
+ghost use Rattle.capture.specs.Walk.{openedOf, stepAt, bodyAt};
 ghost use Rattle.capture.specs.Writer.{interleaved, givenFit, wroteOf, roomAfter};
 
 // What a capture holds: its number of rows, and the place of the first.
@@ -86,7 +86,6 @@ pub fn open(s: &[u8]) -> Opened
 // The row's mark, and the next row and place.
 pub fn step_at(s: &[u8], row: usize, place: usize) -> Step
     ensures { λ r. ⌜ r ≡ stepAt (now (s .entry)) row place ⌝ }
-    ensures { λ r. ⌜ Within r place (length (now (s .entry))) ⌝ }
 {
     if !is_capture(s) {
         return Step::NotCapture;

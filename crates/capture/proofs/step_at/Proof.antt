@@ -16,7 +16,7 @@ is-capture-requires : tie.Need-is-capture-requires
 is-capture-requires c κs = search needs
 
 returns : tie.Need-returns
-returns c = (step-not _ _ _ (sym (c .before .is-capture .ensures) ∙ not-true _ (c .if1 .taken)), tt)
+returns c = (step-not _ _ _ (sym (c .before .is-capture .ensures) ∙ not-true _ (c .if1 .taken)))
 
 shared-slice-read-wide : tie.Need-shared-slice-read-wide
 shared-slice-read-wide c = omega (arith, facts (c .before .before .before .before .args .s .now) (sym (c .before .before .is-capture .ensures) ∙ not-false _ (c .before .if1 .left)) .table)
@@ -25,7 +25,7 @@ wide-requires : tie.Need-wide-requires
 wide-requires c κs = search needs
 
 returns-2 : tie.Need-returns-2
-returns-2 c = (step-past _ _ _ (sym (c .before .before .before .before .is-capture .ensures) ∙ not-false _ (c .before .before .before .if1 .left)) (omega arith), tt)
+returns-2 c = (step-past _ _ _ (sym (c .before .before .before .before .is-capture .ensures) ∙ not-false _ (c .before .before .before .if1 .left)) (omega arith))
 
 mul-wide : tie.Need-mul-wide
 mul-wide c = search needs
@@ -40,13 +40,13 @@ wide-requires-2 : tie.Need-wide-requires-2
 wide-requires-2 c κs = search needs
 
 returns-3 : tie.Need-returns-3
-returns-3 c = (step-long _ _ _ (sym (c .before .before .before .before .before .before .before .is-capture .ensures) ∙ not-false _ (c .before .before .before .before .before .before .if1 .left)) (omega arith) (omega arith), tt)
+returns-3 c = (step-long _ _ _ (sym (c .before .before .before .before .before .before .before .is-capture .ensures) ∙ not-false _ (c .before .before .before .before .before .before .if1 .left)) (omega arith) (omega arith))
 
 sub-if4 : tie.Need-sub-if4
 sub-if4 c = search needs
 
 returns-4 : tie.Need-returns-4
-returns-4 c = (step-long _ _ _ (sym (c .before .before .before .before .before .before .before .before .is-capture .ensures) ∙ not-false _ (c .before .before .before .before .before .before .before .if1 .left)) (omega arith) (omega arith), tt)
+returns-4 c = (step-long _ _ _ (sym (c .before .before .before .before .before .before .before .before .is-capture .ensures) ∙ not-false _ (c .before .before .before .before .before .before .before .if1 .left)) (omega arith) (omega arith))
 
 mul-t10 : tie.Need-mul-t10
 mul-t10 c = search needs
@@ -68,7 +68,7 @@ returns-5 c = let s = c .before .before .before .before .before .before .before 
     let row = c .before .before .before .before .before .before .before .before .before .before .before .args .row in
     let place = c .before .before .before .before .before .before .before .before .before .before .before .args .place in
     let has = has-row s row place (sym (c .before .before .before .before .before .before .before .before .before .is-capture .ensures) ∙ not-false _ (c .before .before .before .before .before .before .before .before .if1 .left)) (omega arith) (omega arith) in
-    (ap (λ (n : ℕ). Next (markIn s row) (row + 1) (place + n)) (c .before .before .before .wide2 .ensures .0) ∙ sym (step-next s row place has), (omega arith, omega arith))
+    (ap (λ (n : ℕ). Next (markIn s row) (row + 1) (place + n)) (c .before .before .before .wide2 .ensures .0) ∙ sym (step-next s row place has))
 
 pub step-at-spec : {M : Type 1} → statement M
 step-at-spec =
