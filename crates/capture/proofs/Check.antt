@@ -8,7 +8,7 @@ use native.Mathlib.Omega.{arith}
 use lib.Dec.{leb, eqb}
 use lib.ListN.{length}
 use borrow.Author.Tests.{le-leb, lt-leb, eq-eqb, leb-true, eqb-true}
-use Rattle.capture.specs.Capture.{fits, countIn, markIn, lengthIn, placeIn, rowsFit, isCapture}
+use Rattle.capture.specs.Capture.{countIn, markIn, lengthIn, placeIn, rowsFit, isCapture}
 
 -- the two sides of a conjunction
 pub both : (a b : Bool) → a && b ≡ true → (a ≡ true) × (b ≡ true)

@@ -7,10 +7,9 @@ use native.Mathlib.Omega.{arith}
 use lib.Dec.{ltb, leb}
 use lib.ListN.{length, take, drop}
 use borrow.Author.Tests.{lt-ltb, le-ltb, le-leb, lt-leb, leb-true}
-use Rattle.capture.specs.declared.Opened.{Opened}
 use Rattle.capture.specs.declared.Step.{Step}
 use Rattle.capture.specs.declared.Step.the-variants.{Next, End, NotCapture}
-use Rattle.capture.specs.Capture.{isCapture, countIn, markIn, lengthIn, placeIn}
+use Rattle.capture.specs.Capture.{isCapture, countIn, markIn, lengthIn}
 use Rattle.capture.specs.Walk.{openedOf, hasRow, stepAt, bodyAt}
 use Rattle.capture.proofs.Check.{both, place-start}
 

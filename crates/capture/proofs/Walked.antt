@@ -1,7 +1,7 @@
 -- The walk over a capture visits every row once, in order, and ends at the exact end; what was written is read back.
 -- Assumes nothing.
 use mathlib.Core.Path.{_≡_, refl, sym, ap, _∙_}
-use mathlib.Core.Bool.{true, _&&_}
+use mathlib.Core.Bool.{true}
 use mathlib.Core.List.{List, [], _∷_, _++_, map}
 use Prim.Native.Nat.{ℕ, zero, suc, _+_, _*_, _≤_, _<_}
 use native.Mathlib.Numerals.{add-one}
@@ -11,9 +11,8 @@ use lib.ListN.{length, take, drop, length-append, length-map}
 use lib.Seq.{take-append-seam, drop-append-seam}
 use borrow.Author.Tests.{le-leb, eq-eqb}
 use Rattle.capture.specs.declared.Step.{Step}
-use Rattle.capture.specs.declared.Step.the-variants.{Next, End, NotCapture}
-use Rattle.capture.specs.declared.Wrote.{Wrote}
-use Rattle.capture.specs.Capture.{Row, fits, allFit, Fit, bodiesOf, captureOf, IsCapture, countIn, markIn, lengthIn, placeIn, isCapture}
+use Rattle.capture.specs.declared.Step.the-variants.{Next, End}
+use Rattle.capture.specs.Capture.{Row, allFit, Fit, bodiesOf, captureOf, IsCapture, countIn, markIn, lengthIn, placeIn, isCapture}
 use Rattle.capture.specs.Walk.{hasRow, stepAt, bodyAt, follow, walk}
 use Rattle.capture.specs.Writer.{rowsGiven, pairsFit, sum, givenFit, asked, written, wroteOf, roomAfter}
 use Rattle.capture.proofs.Check.{both, facts, place-more, place-start}

@@ -1,17 +1,17 @@
 -- What the writer writes: the capture of the rows given. Assumes nothing.
 use mathlib.Core.Path.{_≡_, refl, sym, ap, _∙_}
-use mathlib.Core.Bool.{Bool, true, false, _&&_}
+use mathlib.Core.Bool.{true, false, _&&_}
 use mathlib.Core.List.{List, [], _∷_, _++_}
-use Prim.Native.Nat.{ℕ, suc, _+_, _-_, _*_, _≤_, _<_}
+use Prim.Native.Nat.{ℕ, suc, _+_, _*_, _≤_}
 use native.Mathlib.Nat.{add-zero}
 use native.Mathlib.Omega.{arith}
 use lib.Dec.{leb, eqb}
 use lib.ListN.{length, take, drop, set, length-append, length-take, length-drop, take-append-drop}
 use lib.Seq.{sets, sets-eq}
-use borrow.Author.Tests.{le-leb, lt-leb, leb-true, eqb-true}
+use borrow.Author.Tests.{leb-true, eqb-true}
 use Rattle.capture.specs.declared.Wrote.{Wrote}
-use Rattle.capture.specs.Capture.{Row, fits, allFit, Fit, tableOf, bodiesOf, captureOf}
-use Rattle.capture.specs.Writer.{rowsGiven, interleaved, pairsFit, sum, givenFit, asked, written, answerTo, wroteOf, roomAfter}
+use Rattle.capture.specs.Capture.{fits, allFit, tableOf, bodiesOf}
+use Rattle.capture.specs.Writer.{rowsGiven, interleaved, pairsFit, sum, givenFit, asked, written, wroteOf, roomAfter}
 use Rattle.capture.proofs.Check.{both}
 
 -- stores one after the other

@@ -1,6 +1,6 @@
 use borrow.Author.Needs.{needs}
 -- `body_at` meets its contract: the part between the place and the next place is the row's body. Assumes nothing.
-use mathlib.Core.Path.{_≡_, subst, sym, _∙_}
+use mathlib.Core.Path.{subst, sym, _∙_}
 use lib.ListN.{length}
 use Rattle.capture.specs.declared.Step.{Step}
 use Rattle.capture.proofs.Steps.{Within, within, body-shown, body-end, body-not}

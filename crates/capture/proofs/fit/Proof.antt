@@ -1,9 +1,8 @@
-use borrow.Author.Needs.{needs}
 -- `fit` meets its contract: the rows passed fit, and the rest decides as the whole does. Assumes nothing.
 use mathlib.Core.Path.{_≡_, refl, sym, _∙_}
 use Prim.Native.Nat.{_≤_, _+_, _*_, _-_}
 use native.Mathlib.Omega.{arith}
-use lib.ListN.{length, drop}
+use lib.ListN.{drop}
 use Rattle.capture.specs.Writer.{pairsFit, sum}
 use Rattle.capture.proofs.Given.{pair-unfit-mark, pair-unfit-length, pair-fits, pairs-end, sum-more, sum-end, given-uneven, given-over, given-unfit, given-told}
 use Rattle.capture.proofs.fit.Statement.{statement}

@@ -1,4 +1,3 @@
-use borrow.Author.Needs.{needs}
 -- `holds` meets its contract. Assumes nothing.
 use mathlib.Core.Path.{sym}
 use Prim.Native.Nat.{ℕ, _+_}

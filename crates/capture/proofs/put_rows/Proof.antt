@@ -1,4 +1,3 @@
-use borrow.Author.Needs.{needs}
 -- `put_rows` meets its contract: the stores left, after those made, are the stores asked. Assumes nothing.
 use mathlib.Core.Path.{_≡_, refl, sym, _∙_}
 use Prim.Native.Nat.{_≤_, _+_, _*_, _-_}

@@ -1,10 +1,9 @@
 use borrow.Author.Needs.{needs}
 -- `step_at` meets its contract: past the test the rows are there, and each return is a case of the definition. Assumes nothing.
-use mathlib.Core.Path.{_≡_, sym, ap, _∙_, subst}
+use mathlib.Core.Path.{sym, ap, _∙_}
 use Prim.Native.Nat.{ℕ, _+_}
 use native.Mathlib.Omega.{arith}
 use borrow.Author.Tests.{not-true, not-false}
-use Rattle.capture.specs.declared.Step.{Step}
 use Rattle.capture.specs.declared.Step.the-variants.{Next}
 use Rattle.capture.specs.Capture.{markIn}
 use Rattle.capture.proofs.Check.{facts}

@@ -1,8 +1,7 @@
 use borrow.Author.Needs.{needs}
 -- `write_capture` meets its contract: the stores after each other are those of the capture. Assumes nothing.
-use mathlib.Core.Path.{_≡_, sym, _∙_}
+use mathlib.Core.Path.{sym, _∙_}
 use native.Mathlib.Omega.{arith}
-use lib.Dec.{leb}
 use lib.ListN.{length, length-set}
 use borrow.Author.Tests.{leb-true, not-true, not-false}
 use Rattle.capture.specs.Writer.{asked}

@@ -37,7 +37,6 @@ use denote.Triple.Table.{entered, cited}
 use denote.Triple.Walked.{says, Stays, stay-none-slice, walkOf, goes-none-slice, Walks, ends-at, walked, walk-meets}
 use denote.Exit.{yes}
 use denote.Triple.Clauses.{ensured, lasts}
-use Rattle.capture.specs.Walk.{openedOf, stepAt}
 use Rattle.reader.specs.Reading.{startOf, stepOf}
 use Rattle.reader.specs.declared.Reader.{Reader}
 use Rattle.capture.specs.declared.Step.{Step}
