@@ -7,7 +7,7 @@ use mathlib.Core.List.{List, [], _∷_, _++_, append-assoc, append-nil}
 use Prim.Native.Nat.{ℕ, zero, suc, _+_, _-_, _*_, _≤_, _<_}
 use native.Mathlib.Omega.{arith}
 use lib.Dec.{leb}
-use lib.ListN.{length, getD, take, drop, length-append, length-take, length-drop, take-append-drop, drop-of-length-le}
+use lib.ListN.{replicate, length-replicate, length, getD, take, drop, length-append, length-take, length-drop, take-append-drop, drop-of-length-le}
 use lib.Seq.{take-suc, drop-cons, split-at, take-all, drop-length, drop-drop, getD-at, getD-append-add, drop-at, take-append-seam, length-take-le}
 use borrow.Author.Tests.{le-leb, leb-true}
 use Rattle.capture.specs.Capture.{Row, fits, allFit, Fit, tableOf, bodiesOf, captureOf, IsCapture, countIn, markIn, lengthIn, placeIn, rowsFit, isCapture}
@@ -241,3 +241,23 @@ longest s c =
     let rows = c .0 in
     let f = both (leb (length rows) 255) (allFit rows) (c .1 .0) in
     omega (arith, ap length (c .1 .1), capture-length rows, bodies-bound rows (f .1), leb-true (length rows) 255 (f .0))
+
+-- n rows of 37 bytes
+abbrev pub fullest : ℕ → List Row
+fullest n = replicate n (record { mark = 1; body = replicate 37 0 })
+
+full-fit : (n : ℕ) → allFit (fullest n) ≡ true
+unfolding allFit
+full-fit zero = refl
+full-fit (suc n) = full-fit n
+
+full-bodies : (n : ℕ) → length (bodiesOf (fullest n)) ≡ 37 * n
+unfolding bodiesOf
+full-bodies zero = refl
+full-bodies (suc n) = rw length-append (omega (arith, full-bodies n))
+
+-- 255 such rows make one that long
+pub reached : (n : ℕ) → n ≤ 255 → IsCapture (captureOf (fullest n)) × (length (captureOf (fullest n)) ≡ 1 + n * 39)
+reached n h =
+    let count : length (fullest n) ≡ n = length-replicate n (record { mark = 1; body = replicate 37 0 }) in
+    ((fullest n, (rw (count, le-leb n 255 h) (full-fit n), refl)), omega (arith, capture-length (fullest n), full-bodies n))

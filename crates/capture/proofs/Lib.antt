@@ -1,6 +1,4 @@
 pub mod Check
 pub mod Steps
-pub mod Given
-pub mod Written
 pub mod Exact
 pub mod Walked

@@ -10,7 +10,7 @@ use borrow.Author.Tests.{lt-ltb, le-ltb, le-leb, lt-leb, leb-true}
 use Rattle.capture.specs.declared.Step.{Step}
 use Rattle.capture.specs.declared.Step.the-variants.{Next, End, NotCapture}
 use Rattle.capture.specs.Capture.{isCapture, countIn, markIn, lengthIn}
-use Rattle.capture.specs.Walk.{openedOf, hasRow, stepAt, bodyAt}
+use Rattle.capture.specs.Walk.{openedOf, hasRow, stepAt, bodyAt, answerOf}
 use Rattle.capture.proofs.Check.{both, place-start}
 
 module _ (s : List ℕ) where
@@ -96,3 +96,14 @@ module _ (s : List ℕ) (row place : ℕ) {t : Step} (is : t ≡ stepAt s row pl
   pub body-not : t ≡ NotCapture → [] ≡ bodyAt s row place
   unfolding stepAt
   body-not e = body-none s row place (not-has (hasRow s row place) (isCapture s) (markIn s row) (row + 1) (place + lengthIn s row) (sym is ∙ e))
+
+-- a step's number is 14 exactly for bytes that aren't a capture
+pub step-answer : (s : List ℕ) (row place : ℕ) → answerOf (stepAt s row place) ≡ cond (isCapture s) 0 14
+unfolding stepAt
+step-answer s row place = by-cases (isCapture s) (ltb row (countIn s)) (leb (place + lengthIn s row) (length s)) (markIn s row) (row + 1) (place + lengthIn s row)
+  where
+    by-cases : (a b c : Bool) (m r p : ℕ) → answerOf (cond (a && b && c) (Next m r p) (cond a End NotCapture)) ≡ cond a 0 14
+    by-cases true true true m r p = refl
+    by-cases true true false m r p = refl
+    by-cases true false c m r p = refl
+    by-cases false b c m r p = refl

@@ -1,3 +1,2 @@
 pub mod Capture
 pub mod Walk
-pub mod Writer

@@ -57,7 +57,7 @@ fn read(bytes: &[u8]) {
 
 // The answer and the length; then the whole room.
 fn write(marks: &[u8], lengths: &[u8], bodies: &[u8], room: &mut [u8]) {
-    let wrote = capture::write_capture(marks, lengths, bodies, room);
+    let wrote = capture_writer::write_capture(marks, lengths, bodies, room);
     io::print_decimal(STDOUT_FILENO, wide(wrote.answer));
     io::write_all(STDOUT_FILENO, b" ");
     io::print_decimal(STDOUT_FILENO, wrote.length as u64);
@@ -68,7 +68,27 @@ fn write(marks: &[u8], lengths: &[u8], bodies: &[u8], room: &mut [u8]) {
 // The capture of document 01, and what damage makes of it.
 fn read_example() {
     let whole = [
-        3u8, 0, 5, 1, 3, 0, 5, 0x16, 2, 0x0A, 0, 0x47, 0x16, 9, 0x17, 0x16, 2, 0x0A, 0, 0x46, 0,
+        3u8,
+        0,
+        5,
+        1,
+        3,
+        0,
+        5,
+        0x16,
+        2,
+        0x0A,
+        0,
+        0x47,
+        0x16,
+        9,
+        0x17,
+        0x16,
+        2,
+        0x0A,
+        0,
+        0x46,
+        0,
     ];
     read(&whole[0..20]);
     read(&whole[0..19]);
@@ -116,7 +136,7 @@ fn write_256() {
     let marks = [0u8; 256];
     let lengths = [0u8; 256];
     let mut room = [0u8; 513];
-    let wrote = capture::write_capture(&marks, &lengths, &[], &mut room);
+    let wrote = capture_writer::write_capture(&marks, &lengths, &[], &mut room);
     io::print_decimal(STDOUT_FILENO, wide(wrote.answer));
     line_end();
 }

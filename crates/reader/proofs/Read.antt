@@ -1,9 +1,8 @@
 -- A reader walks every row of a capture once and in order, and stops. Assumes nothing.
 use mathlib.Core.Path.{_≡_, refl, sym, ap, _∙_}
 use mathlib.Core.Bool.{true}
-use mathlib.Core.List.{List, [], _∷_}
-use Prim.Native.Nat.{ℕ, zero, suc, _+_, _*_, _≤_, _<_}
-use native.Mathlib.Numerals.{add-one}
+use mathlib.Core.List.{List, _∷_}
+use Prim.Native.Nat.{ℕ, zero, suc, _+_, _≤_, _<_}
 use native.Mathlib.Omega.{arith}
 use lib.ListN.{length, take, drop}
 use denote.Ref.{RefT, now}
@@ -11,7 +10,7 @@ use Rattle.capture.specs.declared.Opened.{Opened}
 use Rattle.capture.specs.declared.Step.{Step}
 use Rattle.capture.specs.declared.Step.the-variants.{Next, End, NotCapture}
 use Rattle.capture.specs.Capture.{Row, Fit, captureOf, countIn, markIn, lengthIn, placeIn, isCapture}
-use Rattle.capture.specs.Walk.{openedOf, stepAt, bodyAt, rowAfter, placeAfter, follow, walk}
+use Rattle.capture.specs.Walk.{openedOf, rowAfter, placeAfter, follow, walk}
 use Rattle.capture.proofs.Check.{place-start}
 use Rattle.capture.proofs.Steps.{opened}
 use Rattle.capture.proofs.Exact.{capture-is}

@@ -9,7 +9,7 @@ use lib.Dec.{eqb}
 use lib.ListN.{length, getD, drop, set, drop-of-length-le}
 use lib.Seq.{sets, drop-cons}
 use borrow.Author.Tests.{le-leb, lt-leb, eq-eqb, ne-eqb}
-use Rattle.capture.specs.Writer.{interleaved, pairsFit, sum, givenFit}
+use Rattle.capture_writer.specs.Writer.{interleaved, pairsFit, sum, givenFit}
 
 module _ (marks sizes : List ℕ) (i : ℕ) (m : i < length marks) (l : i < length sizes) where
   pub pair-unfit-mark : 1 < getD marks i 0 → pairsFit (drop i marks) (drop i sizes) ≡ false

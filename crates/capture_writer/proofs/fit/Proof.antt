@@ -3,10 +3,10 @@ use mathlib.Core.Path.{_≡_, refl, sym, _∙_}
 use Prim.Native.Nat.{_≤_, _+_, _*_, _-_}
 use native.Mathlib.Omega.{arith}
 use lib.ListN.{drop}
-use Rattle.capture.specs.Writer.{pairsFit, sum}
-use Rattle.capture.proofs.Given.{pair-unfit-mark, pair-unfit-length, pair-fits, pairs-end, sum-more, sum-end, given-uneven, given-over, given-unfit, given-told}
-use Rattle.capture.proofs.fit.Statement.{statement}
-use Rattle.capture.proofs.fit.Tie as tie
+use Rattle.capture_writer.specs.Writer.{pairsFit, sum}
+use Rattle.capture_writer.proofs.Given.{pair-unfit-mark, pair-unfit-length, pair-fits, pairs-end, sum-more, sum-end, given-uneven, given-over, given-unfit, given-told}
+use Rattle.capture_writer.proofs.fit.Statement.{statement}
+use Rattle.capture_writer.proofs.fit.Tie as tie
 
 abbrev Inv-loop : tie.InvT-loop
 Inv-loop marks lengths bodies n i₀ total₀ i total = (i ≤ n) × (total ≤ 255 * i) × (total + sum (drop i lengths) ≡ sum lengths) × (pairsFit (drop i marks) (drop i lengths) ≡ pairsFit marks lengths)

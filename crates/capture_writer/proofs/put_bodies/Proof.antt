@@ -5,9 +5,9 @@ use native.Mathlib.Nat.{add-zero}
 use native.Mathlib.Omega.{arith}
 use lib.ListN.{length, drop, length-set, drop-of-length-le}
 use lib.Seq.{sets}
-use Rattle.capture.proofs.Given.{byte-set}
-use Rattle.capture.proofs.put_bodies.Statement.{statement}
-use Rattle.capture.proofs.put_bodies.Tie as tie
+use Rattle.capture_writer.proofs.Given.{byte-set}
+use Rattle.capture_writer.proofs.put_bodies.Statement.{statement}
+use Rattle.capture_writer.proofs.put_bodies.Tie as tie
 
 abbrev Inv-loop : tie.InvT-loop
 Inv-loop bodies room₀ place i₀ room i = (i ≤ length bodies) × (length room ≡ length room₀) × (sets room (place + i) (drop i bodies) ≡ sets room₀ place bodies)

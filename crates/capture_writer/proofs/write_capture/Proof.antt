@@ -4,10 +4,10 @@ use mathlib.Core.Path.{sym, _∙_}
 use native.Mathlib.Omega.{arith}
 use lib.ListN.{length, length-set}
 use borrow.Author.Tests.{leb-true, not-true, not-false}
-use Rattle.capture.specs.Writer.{asked}
-use Rattle.capture.proofs.Written.{given, refused-room, refused-rows, served}
-use Rattle.capture.proofs.write_capture.Statement.{statement}
-use Rattle.capture.proofs.write_capture.Tie as tie
+use Rattle.capture_writer.specs.Writer.{asked}
+use Rattle.capture_writer.proofs.Written.{given, refused-room, refused-rows, served}
+use Rattle.capture_writer.proofs.write_capture.Statement.{statement}
+use Rattle.capture_writer.proofs.write_capture.Tie as tie
 
 holds-requires : tie.Need-holds-requires
 holds-requires c κs = search needs

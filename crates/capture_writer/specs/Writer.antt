@@ -4,8 +4,8 @@ use mathlib.Core.List.{List, [], _∷_, _++_}
 use Prim.Native.Nat.{ℕ, _+_}
 use lib.Dec.{leb, eqb}
 use lib.ListN.{length, take, drop}
-use Rattle.capture.specs.declared.Wrote.{Wrote}
+use Rattle.capture_writer.specs.declared.Wrote.{Wrote}
 use Rattle.capture.specs.Capture.{Row, fits, captureOf}
 
 -- the rows that are given by their marks, their lengths and their bodies joined
 unfoldable pub rowsGiven : List ℕ → List ℕ → List ℕ → List Row

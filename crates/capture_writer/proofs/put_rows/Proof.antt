@@ -4,10 +4,10 @@ use Prim.Native.Nat.{_≤_, _+_, _*_, _-_}
 use native.Mathlib.Omega.{arith}
 use lib.ListN.{length, drop, length-set}
 use lib.Seq.{sets}
-use Rattle.capture.specs.Writer.{interleaved}
-use Rattle.capture.proofs.Given.{pair-set, set-end}
-use Rattle.capture.proofs.put_rows.Statement.{statement}
-use Rattle.capture.proofs.put_rows.Tie as tie
+use Rattle.capture_writer.specs.Writer.{interleaved}
+use Rattle.capture_writer.proofs.Given.{pair-set, set-end}
+use Rattle.capture_writer.proofs.put_rows.Statement.{statement}
+use Rattle.capture_writer.proofs.put_rows.Tie as tie
 
 abbrev Inv-loop : tie.InvT-loop
 Inv-loop marks lengths room₀ i₀ at₀ room i at = (i ≤ length marks) × (at ≡ 2 * i + 1) × (length room ≡ length room₀) × (sets room at (interleaved (drop i marks) (drop i lengths)) ≡ sets room₀ 1 (interleaved marks lengths))

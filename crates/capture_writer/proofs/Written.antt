@@ -9,10 +9,10 @@ use lib.Dec.{leb, eqb}
 use lib.ListN.{length, take, drop, set, length-append, length-take, length-drop, take-append-drop}
 use lib.Seq.{sets, sets-eq}
 use borrow.Author.Tests.{leb-true, eqb-true}
-use Rattle.capture.specs.declared.Wrote.{Wrote}
+use Rattle.capture_writer.specs.declared.Wrote.{Wrote}
 use Rattle.capture.specs.Capture.{fits, allFit, tableOf, bodiesOf}
-use Rattle.capture.specs.Writer.{rowsGiven, interleaved, pairsFit, sum, givenFit, asked, written, wroteOf, roomAfter}
+use Rattle.capture_writer.specs.Writer.{rowsGiven, interleaved, pairsFit, sum, givenFit, asked, written, wroteOf, roomAfter}
 use Rattle.capture.proofs.Check.{both}
 
 -- stores one after the other
 sets-append : (l : List ℕ) (i : ℕ) (vs ws : List ℕ) → sets (sets l i vs) (i + length vs) ws ≡ sets l i (vs ++ ws)

@@ -3,8 +3,8 @@ use mathlib.Core.Path.{sym}
 use Prim.Native.Nat.{ℕ, _+_}
 use native.Mathlib.Omega.{arith}
 use borrow.Author.Tests.{le-leb, lt-leb}
-use Rattle.capture.proofs.holds.Statement.{statement}
-use Rattle.capture.proofs.holds.Tie as tie
+use Rattle.capture_writer.proofs.holds.Statement.{statement}
+use Rattle.capture_writer.proofs.holds.Tie as tie
 
 abbrev asked : ℕ → ℕ → ℕ → ℕ
 asked m l b = 1 + m + l + b
