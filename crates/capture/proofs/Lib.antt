@@ -1,0 +1,4 @@
+pub mod Check
+pub mod Steps
+pub mod Exact
+pub mod Walked

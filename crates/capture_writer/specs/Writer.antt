@@ -1,0 +1,59 @@
+-- Writing a capture into a lent room. Assumes nothing: these are definitions.
+use mathlib.Core.Bool.{Bool, true, cond, _&&_}
+use mathlib.Core.List.{List, [], _∷_, _++_}
+use Prim.Native.Nat.{ℕ, _+_}
+use lib.Dec.{leb, eqb}
+use lib.ListN.{length, take, drop}
+use Rattle.capture_writer.specs.declared.Wrote.{Wrote}
+use Rattle.capture.specs.Capture.{Row, fits, captureOf}
+
+-- the rows that are given by their marks, their lengths and their bodies joined
+unfoldable pub rowsGiven : List ℕ → List ℕ → List ℕ → List Row
+rowsGiven [] sizes bodies = []
+rowsGiven (mark ∷ marks) [] bodies = []
+rowsGiven (mark ∷ marks) (size ∷ sizes) bodies = record { mark = mark; body = take size bodies } ∷ rowsGiven marks sizes (drop size bodies)
+
+-- marks and lengths in turn
+unfoldable pub interleaved : List ℕ → List ℕ → List ℕ
+interleaved [] sizes = []
+interleaved (mark ∷ marks) [] = []
+interleaved (mark ∷ marks) (size ∷ sizes) = mark ∷ size ∷ interleaved marks sizes
+
+unfoldable pub pairsFit : List ℕ → List ℕ → Bool
+pairsFit [] sizes = true
+pairsFit (mark ∷ marks) [] = true
+pairsFit (mark ∷ marks) (size ∷ sizes) = fits mark size && pairsFit marks sizes
+
+unfoldable pub sum : List ℕ → ℕ
+sum [] = 0
+sum (size ∷ sizes) = size + sum sizes
+
+-- as many lengths as marks, their number a byte, each row fits, and the lengths make up the bodies
+unfoldable pub givenFit : List ℕ → List ℕ → List ℕ → Bool
+givenFit marks sizes bodies = eqb (length marks) (length sizes) && leb (length marks) 255 && pairsFit marks sizes && eqb (sum sizes) (length bodies)
+
+-- the bytes that a capture of so much takes
+abbrev pub asked : List ℕ → List ℕ → List ℕ → ℕ
+asked marks sizes bodies = 1 + length marks + length sizes + length bodies
+
+-- the capture written
+abbrev pub written : List ℕ → List ℕ → List ℕ → List ℕ
+written marks sizes bodies = captureOf (rowsGiven marks sizes bodies)
+
+-- 2: the room is too short; 14: no rows of a capture; else 0
+abbrev pub answerTo : List ℕ → List ℕ → List ℕ → List ℕ → ℕ
+answerTo marks sizes bodies room = cond (leb (asked marks sizes bodies) (length room)) (cond (givenFit marks sizes bodies) 0 14) 2
+
+-- the answer, and the capture's length if it was written
+unfoldable pub wroteOf : List ℕ → List ℕ → List ℕ → List ℕ → Wrote
+wroteOf marks sizes bodies room =
+    cond (eqb (answerTo marks sizes bodies room) 0)
+    (record { answer = 0; length = length (written marks sizes bodies) })
+    (record { answer = answerTo marks sizes bodies room; length = 0 })
+
+-- the capture at the front, the rest stays; else all stays
+unfoldable pub roomAfter : List ℕ → List ℕ → List ℕ → List ℕ → List ℕ
+roomAfter marks sizes bodies room =
+    cond (eqb (answerTo marks sizes bodies room) 0)
+    (written marks sizes bodies ++ drop (length (written marks sizes bodies)) room)
+    room
