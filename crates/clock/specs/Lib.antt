@@ -1,0 +1,3 @@
+pub mod Sample
+pub mod Broadcast
+pub mod Run
