@@ -1,3 +1,1 @@
 pub mod Sample
-pub mod Broadcast
-pub mod Run

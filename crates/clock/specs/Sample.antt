@@ -1,6 +1,6 @@
 -- Document 01, Clock and broadcasts: what a sample does to the pack before anything is sent.
 -- Assumes nothing.
-use Prim.Native.Nat.{ℕ, _+_, _-_, _*_, _%_, _^_, min}
+use Prim.Native.Nat.{ℕ, _+_, _-_, _*_, _%_, _^_, _<_, _≤_, min}
 use mathlib.Core.Bool.{Bool, cond, not, _&&_}
 use mathlib.Core.List.{_∷_}
 use lib.Dec.{eqb}
@@ -55,13 +55,13 @@ hostAfter h hold =
       CapacityMode = h .CapacityMode;
     }
 
--- the alarm timer stops counting at 10,000; while CHARGER_MODE is set the charger timer stands at 0
+-- the alarm timer stops counting at 10,000; the charger timer at 30,000, where its words go; while CHARGER_MODE is set it stands at 0
 abbrev pub timersAfter : Timers → Bool → ℕ → Timers
 timersAfter t chargerMode elapsed =
     record {
       hold = holdAfter t elapsed;
       alarm = min 10000 (t .alarm + elapsed);
-      charger = cond chargerMode 0 (t .charger + elapsed);
+      charger = cond chargerMode 0 (min 30000 (t .charger + elapsed));
     }
 
 -- the pack at the moment of sending: charge, kept samples, bit 4, countdown and timers are done
@@ -75,3 +75,10 @@ movedOf p s =
       tank = tankAfter (p .tank) (latestOf s .current) (elapsedOf (s .counter) (p .latest .counter));
       timers = timersAfter (p .timers) (p .host .ChargerMode) (elapsedOf (s .counter) (p .latest .counter));
     }
+
+-- what a sample asks of a pack, and a sound one has
+pub record Ready (p : Pack) : Type 0 where
+  pub full : 0 < p .tank .full
+  pub charge : p .tank .charge ≤ milliampMs (p .tank .full)
+  pub alarm : p .timers .alarm ≤ 10000
+  pub charger : p .timers .charger ≤ 29999

@@ -1,12 +1,11 @@
 // Samples: charge, kept samples, bit 4, hold, timers and broadcasts.
 ghost use mathlib.Core.Path.{_≡_};
 ghost use mathlib.Core.Bool.{Bool, cond, not, _&&_};
-ghost use mathlib.Core.List.{List, _++_};
-ghost use Prim.Native.Nat.{_+_, _*_, _≤_, _<_, min};
-ghost use lib.ListN.{length};
+ghost use mathlib.Core.List.{List, _∷_, _++_};
+ghost use Prim.Native.Nat.{_+_, _-_, _*_, _≤_, _<_, min};
+ghost use lib.ListN.{length, take};
 ghost use lib.Seq.{sets};
-ghost use Rattle.clock.specs.Sample.{elapsedOf, chargeAfter, tankAfter, keptAfter, holdAfter, hostAfter, timersAfter, movedOf};
-ghost use Rattle.clock.specs.Broadcast.{alarmGoes, chargerGoes, messageIf, broadcastOf, messagesOf, restartedOf, sampledOf, sampleOf, roomAfter};
+ghost use Rattle.clock.specs.Sample.{elapsedOf, chargeAfter, tankAfter, keptAfter, holdAfter, hostAfter, timersAfter, movedOf, Ready};
 ghost use Rattle.pack.specs.Sound.{soundOf};
 ghost use Rattle.words.specs.Capacity.{milliampMs};
 use pack::Host;
@@ -32,7 +31,7 @@ pub fn elapsed(new: u32, old: u32) -> u32
     std::num::wrapping_sub_u32(new, old)
 }
 
-fn moved(size: u32, elapsed: u32) -> u64
+fn flowed(size: u32, elapsed: u32) -> u64
     requires { ⌜ size ≤ 32768 ⌝ }
     ensures { λ r. ⌜ r ≡ size * elapsed ⌝ }
 {
@@ -43,7 +42,7 @@ fn charge_after(charge: u64, full: u16, current: u16, elapsed: u32) -> u64
     requires { ⌜ charge ≤ milliampMs full ⌝ }
     ensures { λ r. ⌜ r ≡ chargeAfter charge full current elapsed ⌝ }
 {
-    let m = moved(words::size(current), elapsed);
+    let m = flowed(words::size(current), elapsed);
     let top = words::milliamp_ms(full);
     if words::falls(current) {
         if m < charge { charge - m } else { 0 }
@@ -64,25 +63,111 @@ fn tank_after(t: Tank, current: u16, elapsed: u32) -> Tank
     q
 }
 
-// The newest first: every kept sample moves one place on.
-fn keep(k: Kept, current: u16) -> Kept
-    ensures { λ r. ⌜ r ≡ keptAfter k current ⌝ }
+// Every kept sample moves one place on, and the newest stands first.
+fn shifted(old: [u16; 60], current: u16) -> [u16; 60]
+    ensures { λ r. ⌜ r ≡ current ∷ take 59 old ⌝ }
 {
-    let old = k.currents;
     let mut currents = [current; 60];
     let mut i: usize = 1;
     while i < 60 {
         currents[i] = old[i - 1];
         i = i + 1;
     }
-    let mut count = k.count;
-    if count < 60 {
-        count = count + 1;
-    } else {
-        count = 60;
-    }
+    currents
+}
+
+fn more(count: usize) -> usize
+    ensures { λ r. ⌜ r ≡ min 60 (count + 1) ⌝ }
+{
+    if count < 60 { count + 1 } else { 60 }
+}
+
+fn keep(k: Kept, current: u16) -> Kept
+    ensures { λ r. ⌜ r ≡ keptAfter k current ⌝ }
+{
+    let old = k.currents;
+    let currents = shifted(old, current);
+    let count = more(k.count);
     Kept {
         currents: currents,
         count: count,
+    }
+}
+
+fn hold_after(hold: u32, elapsed: u32) -> u32
+    ensures { λ r. ⌜ r ≡ hold - elapsed ⌝ }
+{
+    if elapsed < hold { hold - elapsed } else { 0 }
+}
+
+fn host_after(h: Host, hold: u32) -> Host
+    ensures { λ r. ⌜ r ≡ hostAfter h hold ⌝ }
+{
+    let mut q = h;
+    q.AlarmMode = h.AlarmMode & !(hold == 0);
+    q
+}
+
+// The alarm timer stops counting at 10,000.
+fn alarm_after(alarm: u32, elapsed: u32) -> u32
+    requires { ⌜ alarm ≤ 10000 ⌝ }
+    ensures { λ r. ⌜ r ≡ min 10000 (alarm + elapsed) ⌝ }
+{
+    if elapsed < 10000 - alarm {
+        alarm + elapsed
+    } else {
+        10000
+    }
+}
+
+// Past 30,000 the timer needn't count: its words go.
+fn charger_after(charger: u32, mode: bool, elapsed: u32) -> u32
+    requires { ⌜ charger ≤ 29999 ⌝ }
+    ensures { λ r. ⌜ r ≡ cond mode 0 (min 30000 (charger + elapsed)) ⌝ }
+{
+    if mode {
+        return 0;
+    }
+    if elapsed < 30000 - charger {
+        charger + elapsed
+    } else {
+        30000
+    }
+}
+
+fn timers_after(t: Timers, mode: bool, elapsed: u32) -> Timers
+    requires { ⌜ (t .alarm ≤ 10000) × (t .charger ≤ 29999) ⌝ }
+    ensures { λ r. ⌜ r ≡ timersAfter t mode elapsed ⌝ }
+{
+    let hold = hold_after(t.hold, elapsed);
+    let alarm = alarm_after(t.alarm, elapsed);
+    let charger = charger_after(t.charger, mode, elapsed);
+    Timers {
+        hold: hold,
+        alarm: alarm,
+        charger: charger,
+    }
+}
+
+// The pack at the moment of sending.
+fn moved(p: Pack, s: Sample) -> Pack
+    requires { ⌜ Ready p ⌝ }
+    ensures { λ r. ⌜ r ≡ movedOf p s ⌝ }
+{
+    let time = elapsed(s.counter, p.latest.counter);
+    let latest = pack::latest_of(s);
+    let current = latest.current;
+    let kept = keep(p.kept, current);
+    let tank = tank_after(p.tank, current, time);
+    let timers = timers_after(p.timers, p.host.ChargerMode, time);
+    let host = host_after(p.host, timers.hold);
+    let settings = p.settings;
+    Pack {
+        settings: settings,
+        host: host,
+        latest: latest,
+        kept: kept,
+        tank: tank,
+        timers: timers,
     }
 }
