@@ -6,7 +6,10 @@ ghost use Prim.Native.Nat.{_+_, _-_, _*_, _≤_, _<_, min};
 ghost use lib.ListN.{length, take};
 ghost use lib.Seq.{sets};
 ghost use Rattle.clock.specs.Sample.{elapsedOf, chargeAfter, tankAfter, keptAfter, holdAfter, hostAfter, timersAfter, movedOf, Ready};
+ghost use Rattle.clock.specs.Broadcast.{alarmGoes, chargerGoes, alarmsOf, chargerWordsOf, broadcastOf, messagesOf, restartedOf, sampledOf, servedSample, sampleOf, roomAfter};
+ghost use Rattle.frame.specs.Transactions.{placed};
 ghost use Rattle.pack.specs.Sound.{soundOf};
+ghost use Rattle.registers.specs.Registers.{Measured};
 ghost use Rattle.words.specs.Capacity.{milliampMs};
 use pack::Host;
 use pack::Kept;
@@ -170,4 +173,109 @@ fn moved(p: Pack, s: Sample) -> Pack
         tank: tank,
         timers: timers,
     }
+}
+
+fn alarm_goes(p: Pack) -> bool
+    requires { ⌜ Measured p ⌝ }
+    ensures { λ r. ⌜ r ≡ alarmGoes p ⌝ }
+{
+    gauge::any_alarm(p) & !p.host.AlarmMode & (10000 <= p.timers.alarm)
+}
+
+fn charger_goes(p: Pack) -> bool
+    ensures { λ r. ⌜ r ≡ chargerGoes p ⌝ }
+{
+    !p.host.ChargerMode & (30000 <= p.timers.charger)
+}
+
+// The host hears of every alarm, the charger of those that concern it.
+fn send_alarms(p: Pack, goes: bool, room: &mut [u8]) -> usize
+    requires { ⌜ Measured p × (goes ≡ alarmGoes p) × (16 ≤ length (now room)) ⌝ }
+    ensures length { λ r. ⌜ r ≡ length (alarmsOf p) ⌝ }
+    ensures memory { λ r. ⌜ now (room .exit) ≡ sets (now (room .entry)) 0 (alarmsOf p) ⌝ }
+{
+    if !goes {
+        return 0;
+    }
+    let word = gauge::alarm_word(p);
+    let next = frame::put_message(room, 0, 16, 22, word);
+    if gauge::charger_alarm(p) {
+        return frame::put_message(room, next, 18, 22, word);
+    }
+    next
+}
+
+fn send_charger_words(p: Pack, goes: bool, room: &mut [u8], at: usize) -> usize
+    requires { ⌜ (goes ≡ chargerGoes p) × (at + 8 ≤ length (now room)) ⌝ }
+    ensures length { λ r. ⌜ r ≡ at + length (chargerWordsOf p) ⌝ }
+    ensures memory { λ r. ⌜ now (room .exit) ≡ sets (now (room .entry)) at (chargerWordsOf p) ⌝ }
+{
+    if !goes {
+        return at;
+    }
+    let next = frame::put_message(room, at, 18, 20, gauge::charging_current(p));
+    frame::put_message(room, next, 18, 21, p.settings.ChargingVoltage)
+}
+
+fn restarted(p: Pack, alarm: bool, charger: bool) -> Timers
+    requires { ⌜ (alarm ≡ alarmGoes p) × (charger ≡ chargerGoes p) ⌝ }
+    ensures { λ r. ⌜ r ≡ restartedOf p ⌝ }
+{
+    let mut q = p.timers;
+    if alarm {
+        q.alarm = 0;
+    }
+    if charger {
+        q.charger = 0;
+    }
+    q
+}
+
+// A sample on a sound state with room enough.
+fn serve(s: State, sample: Sample, room: &mut [u8]) -> Sampled
+    requires { ⌜ (soundOf s ≡ true) × (16 ≤ length (now room)) ⌝ }
+    ensures result { λ r. ⌜ r ≡ servedSample s sample ⌝ }
+    ensures memory { λ r. ⌜ now (room .exit) ≡ placed (broadcastOf (movedOf (s .pack) sample)) (now (room .entry)) ⌝ }
+{
+    let mut p = moved(s.pack, sample);
+    let alarm = alarm_goes(p);
+    let charger = charger_goes(p);
+    let at = send_alarms(p, alarm, room);
+    let length = send_charger_words(p, charger, room, at);
+    let timers = restarted(p, alarm, charger);
+    p.timers = timers;
+    let state = State {
+        error: s.error,
+        pack: p,
+    };
+    Sampled {
+        answer: 0,
+        state: state,
+        length: length,
+        messages: length / 4,
+    }
+}
+
+// A sample: answer 0 with the messages at the front of the room, or 1 or 2 with nothing changed.
+pub fn sample(s: State, sample: Sample, room: &mut [u8]) -> Sampled
+    ensures result { λ r. ⌜ r ≡ sampleOf s sample (length (now (room .entry))) ⌝ }
+    ensures memory { λ r. ⌜ now (room .exit) ≡ roomAfter s sample (now (room .entry)) ⌝ }
+{
+    if !pack::sound(s) {
+        return Sampled {
+            answer: 1,
+            state: s,
+            length: 0,
+            messages: 0,
+        };
+    }
+    if room.len() < 16 {
+        return Sampled {
+            answer: 2,
+            state: s,
+            length: 0,
+            messages: 0,
+        };
+    }
+    serve(s, sample, room)
 }
