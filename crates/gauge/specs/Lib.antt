@@ -1,3 +1,2 @@
-pub mod Registers
 pub mod Status
 pub mod Word

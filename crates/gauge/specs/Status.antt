@@ -2,8 +2,8 @@
 -- Assumes nothing.
 use Prim.Native.Nat.{ℕ, _+_}
 use mathlib.Core.Bool.{Bool, true, false, cond, not, _&&_, _||_}
-use lib.Dec.{ltb, leb, eqb}
-use Rattle.gauge.specs.Registers.{remainingCapacity, averageTimeToEmpty}
+use lib.Dec.{ltb, eqb}
+use Rattle.registers.specs.Registers.{bit, remainingCapacity, averageTimeToEmpty}
 use Rattle.pack.specs.declared.Pack.{Pack}
 use Rattle.words.specs.Capacity.{milliampMs}
 use Rattle.words.specs.Words.{above, below}
@@ -36,24 +36,33 @@ remainingTimeLow p = not (eqb (p .host .RemainingTimeAlarm) 0) && ltb (averageTi
 abbrev pub discharging : Pack → Bool
 discharging p = not (above (p .latest .current))
 
--- 16 BatteryStatus above its error code, high to low: 15 OVER_CHARGED is 0 (house), 13 and 10 are reserved, 7 is 1
+-- 15 OVER_CHARGED: 0 (house)
+abbrev pub overCharged : Pack → Bool
+overCharged p = false
+
+-- 16 BatteryStatus above its error code, high to low; 13 and 10 are reserved, 7 INITIALIZED is 1
 unfoldable pub statusBits : Pack → ℕ
 statusBits p =
-    cond (terminateCharge p) 16384 0 + cond (overTemp p) 4096 0 + cond (terminateDischarge p) 2048 0 + cond (remainingCapacityLow p) 512 0
-    + cond (remainingTimeLow p) 256 0 + 128 + cond (discharging p) 64 0 + cond (chargeFull p) 32 0 + cond (p .tank .FullyDischarged) 16 0
+    bit 15 (overCharged p) + bit 14 (terminateCharge p) + bit 12 (overTemp p) + bit 11 (terminateDischarge p)
+    + bit 9 (remainingCapacityLow p) + bit 8 (remainingTimeLow p)
+    + bit 7 true + bit 6 (discharging p) + bit 5 (chargeFull p) + bit 4 (p .tank .FullyDischarged)
 
--- 16 BatteryStatus: the bits with the error code as the low four
+-- 16 BatteryStatus: the error code in its low four bits
 abbrev pub batteryStatus : Pack → ℕ → ℕ
 batteryStatus p code = statusBits p + code
+
+-- an alarm's word is 16's with its low four bits set
+abbrev pub alarmWord : Pack → ℕ
+alarmWord p = batteryStatus p 15
 
 -- 14 ChargingCurrent: the setting, 0 while TERMINATE_CHARGE_ALARM is set
 abbrev pub chargingCurrent : Pack → ℕ
 chargingCurrent p = cond (terminateCharge p) 0 (p .settings .ChargingCurrent)
 
--- any of the alarm bits 15, 14, 12, 11, 9, 8
-abbrev pub anyAlarm : Pack → Bool
-anyAlarm p = terminateCharge p || overTemp p || terminateDischarge p || remainingCapacityLow p || remainingTimeLow p
-
--- any of the bits 15, 14, 12, which concern the charger
+-- any of bits 15, 14, 12 is set: alarms that the charger hears too
 abbrev pub chargerAlarm : Pack → Bool
-chargerAlarm p = terminateCharge p || overTemp p
+chargerAlarm p = overCharged p || terminateCharge p || overTemp p
+
+-- any of bits 15, 14, 12, 11, 9, 8 is set
+abbrev pub anyAlarm : Pack → Bool
+anyAlarm p = chargerAlarm p || terminateDischarge p || remainingCapacityLow p || remainingTimeLow p

@@ -4,7 +4,7 @@ use Prim.Native.Nat.{ℕ}
 use mathlib.Core.Bool.{cond}
 use lib.Dec.{eqb}
 use Rattle.average.specs.Average.{averageOf}
-use Rattle.gauge.specs.Registers.{batteryMode, remainingCapacity, fullChargeCapacity, designCapacity, relativeStateOfCharge, absoluteStateOfCharge, atRateTimeToEmpty, atRateTimeToFull, atRateOK, runTimeToEmpty, averageTimeToEmpty, averageTimeToFull}
+use Rattle.registers.specs.Registers.{batteryMode, remainingCapacity, fullChargeCapacity, designCapacity, relativeStateOfCharge, absoluteStateOfCharge, atRateTimeToEmpty, atRateTimeToFull, atRateOK, runTimeToEmpty, averageTimeToEmpty, averageTimeToFull}
 use Rattle.gauge.specs.Status.{batteryStatus, chargingCurrent}
 use Rattle.pack.specs.declared.State.{State}
 

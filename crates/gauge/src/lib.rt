@@ -1,2 +1,180 @@
-// The word of each register, a pure function of the state.
+// The word of every register, and the alarms that samples broadcast. Only our own crates call these.
 ghost use mathlib.Core.Path.{_≡_};
+ghost use mathlib.Core.Bool.{true};
+ghost use Prim.Native.Nat.{_+_, _%_, _≤_};
+ghost use Rattle.gauge.specs.Status.{chargeFull, overTemp, terminateCharge, terminateDischarge, remainingCapacityLow, remainingTimeLow, discharging, statusBits, batteryStatus, alarmWord, chargingCurrent, chargerAlarm, anyAlarm};
+ghost use Rattle.average.specs.Average.{averageOf};
+ghost use Rattle.gauge.specs.Word.{wordOf};
+ghost use Rattle.pack.specs.Sound.{soundOf};
+ghost use Rattle.registers.specs.Registers.{Measured, batteryMode};
+ghost use Rattle.words.specs.Capacity.{milliampMs};
+use pack::Pack;
+use pack::State;
+
+fn charge_full(p: Pack) -> bool
+    ensures { λ r. ⌜ r ≡ chargeFull p ⌝ }
+{
+    p.tank.charge == words::milliamp_ms(p.tank.full)
+}
+
+fn over_temp(p: Pack) -> bool
+    ensures { λ r. ⌜ r ≡ overTemp p ⌝ }
+{
+    p.settings.TemperatureLimit < p.latest.temperature
+}
+
+fn terminate_charge(p: Pack) -> bool
+    ensures { λ r. ⌜ r ≡ terminateCharge p ⌝ }
+{
+    words::rises(p.latest.current) & (charge_full(p) | over_temp(p))
+}
+
+fn terminate_discharge(p: Pack) -> bool
+    ensures { λ r. ⌜ r ≡ terminateDischarge p ⌝ }
+{
+    words::falls(p.latest.current) & (p.latest.voltage < p.settings.DischargeLimit)
+}
+
+fn remaining_capacity_low(p: Pack) -> bool
+    requires { ⌜ p .tank .charge ≤ milliampMs (p .tank .full) ⌝ }
+    ensures { λ r. ⌜ r ≡ remainingCapacityLow p ⌝ }
+{
+    let limit = p.host.RemainingCapacityAlarm;
+    (limit != 0) & (registers::remaining_capacity(p) < limit)
+}
+
+fn remaining_time_low(p: Pack) -> bool
+    requires { ⌜ Measured p ⌝ }
+    ensures { λ r. ⌜ r ≡ remainingTimeLow p ⌝ }
+{
+    let limit = p.host.RemainingTimeAlarm;
+    (limit != 0) & (registers::average_time_to_empty(p) < limit)
+}
+
+fn discharging_now(p: Pack) -> bool
+    ensures { λ r. ⌜ r ≡ discharging p ⌝ }
+{
+    !words::rises(p.latest.current)
+}
+
+// 16 without its error code.
+fn status_bits(p: Pack) -> u16
+    requires { ⌜ Measured p ⌝ }
+    ensures is { λ r. ⌜ r ≡ statusBits p ⌝ }
+    ensures small { λ r. ⌜ r ≤ 23536 ⌝ }
+{
+    let terminate_charge = registers::flag(terminate_charge(p), 16384);
+    let over_temp = registers::flag(over_temp(p), 4096);
+    let terminate_discharge = registers::flag(terminate_discharge(p), 2048);
+    let capacity = registers::flag(remaining_capacity_low(p), 512);
+    let time = registers::flag(remaining_time_low(p), 256);
+    let discharging = registers::flag(discharging_now(p), 64);
+    let charged = registers::flag(charge_full(p), 32);
+    let discharged = registers::flag(p.tank.FullyDischarged, 16);
+    terminate_charge
+        + over_temp
+        + terminate_discharge
+        + capacity
+        + time
+        + 128
+        + discharging
+        + charged
+        + discharged
+}
+
+// 16.
+pub fn status(p: Pack, code: u8) -> u16
+    requires { ⌜ Measured p ⌝ }
+    ensures { λ r. ⌜ r ≡ batteryStatus p code ⌝ }
+{
+    status_bits(p) + (code as u16)
+}
+
+// The word of an AlarmWarning.
+pub fn alarm_word(p: Pack) -> u16
+    requires { ⌜ Measured p ⌝ }
+    ensures { λ r. ⌜ r ≡ alarmWord p ⌝ }
+{
+    status(p, 15)
+}
+
+// 14.
+pub fn charging_current(p: Pack) -> u16
+    ensures { λ r. ⌜ r ≡ chargingCurrent p ⌝ }
+{
+    if terminate_charge(p) {
+        return 0;
+    }
+    p.settings.ChargingCurrent
+}
+
+// Whether the charger hears of an alarm too.
+pub fn charger_alarm(p: Pack) -> bool
+    ensures { λ r. ⌜ r ≡ chargerAlarm p ⌝ }
+{
+    terminate_charge(p) | over_temp(p)
+}
+
+pub fn any_alarm(p: Pack) -> bool
+    requires { ⌜ Measured p ⌝ }
+    ensures { λ r. ⌜ r ≡ anyAlarm p ⌝ }
+{
+    charger_alarm(p) | terminate_discharge(p) | remaining_capacity_low(p) | remaining_time_low(p)
+}
+
+// 03.
+fn mode(p: Pack) -> u16
+    ensures { λ r. ⌜ r ≡ batteryMode (p .host) ⌝ }
+{
+    let host = p.host;
+    registers::battery_mode(host)
+}
+
+// 0B.
+fn mean(p: Pack) -> u16
+    requires { ⌜ Measured p ⌝ }
+    ensures { λ r. ⌜ r ≡ averageOf (p .kept) ⌝ }
+{
+    let kept = p.kept;
+    average::average(kept)
+}
+
+// The word of a read-word command; 0 for a command that has none.
+pub fn word(s: State, command: u8) -> u16
+    requires { ⌜ soundOf s ≡ true ⌝ }
+    ensures { λ r. ⌜ r ≡ wordOf s command ⌝ }
+{
+    let p = s.pack;
+    match command {
+        0x00 => p.host.ManufacturerAccess,
+        0x01 => p.host.RemainingCapacityAlarm,
+        0x02 => p.host.RemainingTimeAlarm,
+        0x03 => mode(p),
+        0x04 => p.host.AtRate,
+        0x05 => registers::at_rate_time_to_full(p),
+        0x06 => registers::at_rate_time_to_empty(p),
+        0x07 => registers::at_rate_ok(p),
+        0x08 => p.latest.temperature,
+        0x09 => p.latest.voltage,
+        0x0A => p.latest.current,
+        0x0B => mean(p),
+        0x0C => p.settings.MaxError,
+        0x0D => registers::relative_state_of_charge(p),
+        0x0E => registers::absolute_state_of_charge(p),
+        0x0F => registers::remaining_capacity(p),
+        0x10 => registers::full_charge_capacity(p),
+        0x11 => registers::run_time_to_empty(p),
+        0x12 => registers::average_time_to_empty(p),
+        0x13 => registers::average_time_to_full(p),
+        0x14 => charging_current(p),
+        0x15 => p.settings.ChargingVoltage,
+        0x16 => status(p, s.error),
+        0x17 => p.tank.CycleCount,
+        0x18 => registers::design_capacity(p),
+        0x19 => p.settings.DesignVoltage,
+        0x1A => 0x0031,
+        0x1B => p.settings.ManufactureDate,
+        0x1C => p.settings.SerialNumber,
+        _ => 0,
+    }
+}

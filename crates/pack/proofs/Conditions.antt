@@ -1,10 +1,10 @@
 -- What the set-up conditions say where set-up is served.
 -- Assumes nothing.
 use Prim.Native.Nat.{ℕ, _<_, _≤_}
-use mathlib.Core.Bool.{Bool, true, false, not, _||_}
+use mathlib.Core.Bool.{Bool, true, false, _||_}
 use mathlib.Core.Path.{_≡_, refl}
 use native.Mathlib.Omega.{arith}
-use lib.Dec.{eqb, ltb}
+use lib.Dec.{eqb}
 use borrow.Author.Tests.{eqb-false, ltb-false}
 use Rattle.pack.specs.SetUp.{setUpRefused}
 use Rattle.pack.specs.declared.Setup.{Setup}
@@ -20,7 +20,8 @@ pub record Served (u : Setup) : Type 0 where
   pub voltage : 0 < u .DesignVoltage
   pub remaining : u .remaining ≤ u .full
 
-not-zero : (n : ℕ) → eqb n 0 ≡ false → 0 < n
+-- a number that is not 0 is above 0
+pub not-zero : (n : ℕ) → eqb n 0 ≡ false → 0 < n
 not-zero n h = omega (arith, eqb-false n 0 h)
 
 -- set-up that isn't refused meets all four

@@ -1,9 +1,8 @@
 -- Document 01: what set-up gives. Answer 11 and the all-zero state, or 0 and the state of the first sample.
 -- Assumes nothing.
-use Prim.Native.Nat.{ℕ, _*_, _/_}
-use mathlib.Core.Bool.{Bool, true, false, cond, not, _&&_, _||_}
-use mathlib.Core.List.{List, [], _∷_}
-use lib.Dec.{ltb, leb, eqb}
+use Prim.Native.Nat.{ℕ, _/_}
+use mathlib.Core.Bool.{Bool, false, cond, _||_}
+use lib.Dec.{ltb, eqb}
 use lib.ListN.{replicate, set}
 use mir.Syntax.{w16}
 use mir.Val.{ofZ}

@@ -1,8 +1,7 @@
 -- Document 01, Answer numbers: when a state is sound.
 -- Assumes nothing.
-use Prim.Native.Nat.{ℕ, _*_}
 use mathlib.Core.Bool.{Bool, cond, not, _&&_, _||_}
-use lib.Dec.{ltb, leb, eqb}
+use lib.Dec.{leb, eqb}
 use Rattle.pack.specs.declared.State.{State}
 use Rattle.words.specs.Capacity.{milliampMs}
 

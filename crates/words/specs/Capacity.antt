@@ -1,6 +1,6 @@
 -- Document 01, Registers: the rules of capacity that registers, set-up and samples share.
 -- Assumes nothing.
-use Prim.Native.Nat.{ℕ, _+_, _*_, _/_, min}
+use Prim.Native.Nat.{ℕ, _*_, _/_, min}
 use mathlib.Core.Bool.{Bool, true, false, cond}
 use lib.Dec.{eqb, leb}
 

@@ -1,6 +1,5 @@
 // 16-bit words: bytes, sign, capacity by rate and the 10 mWh product. Only our own crates call these.
 ghost use mathlib.Core.Path.{_≡_};
-ghost use mathlib.Core.Bool.{cond, _&&_};
 ghost use Prim.Native.Nat.{_+_, _*_, _≤_, _<_};
 ghost use mir.Syntax.{w16};
 ghost use mir.Val.{ofZ};

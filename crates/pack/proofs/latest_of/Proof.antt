@@ -1,9 +1,9 @@
+-- `pack::latest_of` meets its contract: the current's word is that of the integer.
+-- Assumes nothing.
 use mir.Facts.{toZ-ofZ}
 use mir.Syntax.{w16}
 use borrow.Author.Needs.{needs}
-use borrow.Author.Tests.{lt-ltb, le-ltb, le-leb, lt-leb, eq-eqb, ne-eqb, ltb-true, leb-true}
 use native.Mathlib.Omega.{arith}
-use mathlib.Core.Path.{_≡_, refl, ap, _∙_, sym}
 use Rattle.pack.proofs.latest_of.Statement.{statement}
 use Rattle.pack.proofs.latest_of.Tie as tie
 

@@ -1,8 +1,7 @@
+-- `pack::pack_of` meets its contract: each part by its own function's.
+-- Assumes nothing.
 use Rattle.pack.specs.SetUp.{packOf}
 use borrow.Author.Needs.{needs}
-use borrow.Author.Tests.{lt-ltb, le-ltb, le-leb, lt-leb, eq-eqb, ne-eqb, ltb-true, leb-true}
-use native.Mathlib.Omega.{arith}
-use mathlib.Core.Path.{_≡_, refl, ap, _∙_, sym}
 use Rattle.pack.proofs.pack_of.Statement.{statement}
 use Rattle.pack.proofs.pack_of.Tie as tie
 

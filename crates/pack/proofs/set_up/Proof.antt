@@ -1,9 +1,9 @@
+-- `pack::set_up` meets its contract: refused, or the pack that set-up gives.
+-- Assumes nothing.
 use Rattle.pack.specs.SetUp.{setUpOf}
 use Rattle.pack.proofs.Conditions.{served}
 use borrow.Author.Needs.{needs}
-use borrow.Author.Tests.{lt-ltb, le-ltb, le-leb, lt-leb, eq-eqb, ne-eqb, ltb-true, leb-true}
-use native.Mathlib.Omega.{arith}
-use mathlib.Core.Path.{_≡_, refl, ap, _∙_, sym}
+use mathlib.Core.Path.{_∙_, sym}
 use Rattle.pack.proofs.set_up.Statement.{statement}
 use Rattle.pack.proofs.set_up.Tie as tie
 

@@ -1,8 +1,7 @@
+-- `pack::sound` meets its contract: the test's conditions in their order.
+-- Assumes nothing.
 use Rattle.pack.specs.Sound.{soundOf}
 use borrow.Author.Needs.{needs}
-use borrow.Author.Tests.{lt-ltb, le-ltb, le-leb, lt-leb, eq-eqb, ne-eqb, ltb-true, leb-true}
-use native.Mathlib.Omega.{arith}
-use mathlib.Core.Path.{_≡_, refl, ap, _∙_, sym}
 use Rattle.pack.proofs.sound.Statement.{statement}
 use Rattle.pack.proofs.sound.Tie as tie
 

@@ -1,7 +1,6 @@
+-- `pack::tank_of` meets its contract: the charge of the remaining mAh, and bit 4 from clear.
+-- Assumes nothing.
 use borrow.Author.Needs.{needs}
-use borrow.Author.Tests.{lt-ltb, le-ltb, le-leb, lt-leb, eq-eqb, ne-eqb, ltb-true, leb-true}
-use native.Mathlib.Omega.{arith}
-use mathlib.Core.Path.{_≡_, refl, ap, _∙_, sym}
 use Rattle.pack.proofs.tank_of.Statement.{statement}
 use Rattle.pack.proofs.tank_of.Tie as tie
 

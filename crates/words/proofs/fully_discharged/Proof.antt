@@ -1,7 +1,7 @@
+-- `words::fully_discharged` meets its contract: each way out by its tests.
+-- Assumes nothing.
 use borrow.Author.Needs.{needs}
-use borrow.Author.Tests.{lt-ltb, le-ltb, le-leb, lt-leb, eq-eqb, ne-eqb, ltb-true, leb-true}
-use native.Mathlib.Omega.{arith}
-use mathlib.Core.Path.{_≡_, refl, ap, _∙_, sym}
+use borrow.Author.Tests.{le-leb, lt-leb, eq-eqb, ne-eqb}
 use Rattle.words.proofs.fully_discharged.Statement.{statement}
 use Rattle.words.proofs.fully_discharged.Tie as tie
 

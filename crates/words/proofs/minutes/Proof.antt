@@ -1,7 +1,8 @@
+-- `words::minutes` meets its contract: a rate of 0, a quotient under the cap, or the cap.
+-- Assumes nothing.
 use borrow.Author.Needs.{needs}
-use borrow.Author.Tests.{lt-ltb, le-ltb, le-leb, lt-leb, eq-eqb, ne-eqb, ltb-true, leb-true}
+use borrow.Author.Tests.{eq-eqb, ne-eqb}
 use native.Mathlib.Omega.{arith}
-use mathlib.Core.Path.{_≡_, refl, ap, _∙_, sym}
 use Rattle.words.proofs.minutes.Statement.{statement}
 use Rattle.words.proofs.minutes.Tie as tie
 

@@ -1,8 +1,8 @@
+-- `words::percent` meets its contract: the divisor is the capacity in mA·ms.
+-- Assumes nothing.
 use Prim.Native.Nat.{ℕ, _*_, _/_}
 use borrow.Author.Needs.{needs}
-use borrow.Author.Tests.{lt-ltb, le-ltb, le-leb, lt-leb, eq-eqb, ne-eqb, ltb-true, leb-true}
-use native.Mathlib.Omega.{arith}
-use mathlib.Core.Path.{_≡_, refl, ap, _∙_, sym}
+use mathlib.Core.Path.{ap}
 use Rattle.words.proofs.percent.Statement.{statement}
 use Rattle.words.proofs.percent.Tie as tie
 

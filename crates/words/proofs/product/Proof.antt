@@ -1,8 +1,8 @@
+-- `words::product` meets its contract: 65,535 mAh in mA·ms times a word fits 64 bits.
+-- Assumes nothing.
 use native.Mathlib.Nat.{lt-of-le-of-lt, mul-le-mul-right}
 use borrow.Author.Needs.{needs}
-use borrow.Author.Tests.{lt-ltb, le-ltb, le-leb, lt-leb, eq-eqb, ne-eqb, ltb-true, leb-true}
 use native.Mathlib.Omega.{arith}
-use mathlib.Core.Path.{_≡_, refl, ap, _∙_, sym}
 use Rattle.words.proofs.product.Statement.{statement}
 use Rattle.words.proofs.product.Tie as tie
 

@@ -1,7 +1,8 @@
+-- `words::size` meets its contract on either side of 32,768.
+-- Assumes nothing.
 use borrow.Author.Needs.{needs}
-use borrow.Author.Tests.{lt-ltb, le-ltb, le-leb, lt-leb, eq-eqb, ne-eqb, ltb-true, leb-true}
+use borrow.Author.Tests.{le-leb, lt-leb}
 use native.Mathlib.Omega.{arith}
-use mathlib.Core.Path.{_≡_, refl, ap, _∙_, sym}
 use Rattle.words.proofs.size.Statement.{statement}
 use Rattle.words.proofs.size.Tie as tie
 

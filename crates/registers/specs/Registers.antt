@@ -1,17 +1,27 @@
 -- Document 01, Registers: the words that are numbers of their own, each a function of the pack without its error code.
 -- Assumes nothing.
-use Prim.Native.Nat.{ℕ, _+_, _-_, _*_, _/_, min}
-use mathlib.Core.Bool.{Bool, true, false, cond}
-use lib.Dec.{ltb, leb, eqb}
+use Prim.Native.Nat.{ℕ, _+_, _-_, _*_, _/_, _^_, _≤_}
+use mathlib.Core.Bool.{Bool, cond}
+use lib.Dec.{leb}
 use Rattle.average.specs.Average.{averageOf}
 use Rattle.pack.specs.declared.Host.{Host}
 use Rattle.pack.specs.declared.Pack.{Pack}
 use Rattle.words.specs.Capacity.{minutesOf, powerOf, energyOf, cappedWord, milliampMs, percentOf, relativeOf}
 use Rattle.words.specs.Words.{above, below, sizeOf}
 
+-- what a sound state says of charge and of the kept samples
+pub record Measured (p : Pack) : Type 0 where
+  pub charge : p .tank .charge ≤ milliampMs (p .tank .full)
+  pub some : 1 ≤ p .kept .count
+  pub most : p .kept .count ≤ 60
+
+-- what bit k adds to a word
+abbrev pub bit : ℕ → Bool → ℕ
+bit k on = cond on (2 ^ k) 0
+
 -- 03 BatteryMode: bits 13 ALARM_MODE, 14 CHARGER_MODE, 15 CAPACITY_MODE; others read 0
 abbrev pub batteryMode : Host → ℕ
-batteryMode h = cond (h .AlarmMode) 8192 0 + cond (h .ChargerMode) 16384 0 + cond (h .CapacityMode) 32768 0
+batteryMode h = bit 13 (h .AlarmMode) + bit 14 (h .ChargerMode) + bit 15 (h .CapacityMode)
 
 -- mAh as 10, 18 give it: whole mAh; in power mode 10 mWh, capped at 65,535
 abbrev pub capacityOf : Pack → ℕ → ℕ

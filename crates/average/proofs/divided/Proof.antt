@@ -1,0 +1,47 @@
+-- `average::divided` meets its contract: either difference over n, which is at most 32,768.
+-- Assumes nothing.
+use Prim.Native.Nat.{ℕ}
+use borrow.Author.Needs.{needs}
+use native.Mathlib.Omega.{arith}
+use mathlib.Core.Path.{ap, _∙_, sym}
+use lib.IntN.{pos, negℤ}
+use mir.Syntax.{w16}
+use mir.Val.{ofZ}
+use Rattle.average.proofs.Integers.{at-most, word-up, word-down, minus}
+use Rattle.average.proofs.divided.Statement.{statement}
+use Rattle.average.proofs.divided.Tie as tie
+
+div-m : tie.Need-div-m
+div-m c = search needs
+
+cast-result : tie.Need-cast-result
+cast-result c =
+    let a = c .before .before .before in omega (arith, at-most (a .args .s .ins) (a .args .s .outs) (a .args .n) (a .pre .1))
+
+sub-m : tie.Need-sub-m
+sub-m c = search needs
+
+div-m-2 : tie.Need-div-m-2
+div-m-2 c = search needs
+
+sub-result : tie.Need-sub-result
+sub-result c =
+    let a = c .before .before .before .before in omega (arith, at-most (a .args .s .outs) (a .args .s .ins) (a .args .n) (a .pre .2))
+
+cast-result-2 : tie.Need-cast-result-2
+cast-result-2 c = search needs
+
+returns : tie.Need-returns
+returns c = word-up _ _ _ (c .before .if1 .taken)
+
+returns-2 : tie.Need-returns-2
+returns-2 c =
+    ap (λ (m : ℕ). ofZ w16 (negℤ (pos m))) (sym (c .if2 .taken)) ∙ word-down _ _ _ (c .before .before .if1 .left)
+
+returns-3 : tie.Need-returns-3
+returns-3 c = minus _ (omega (arith, c .if2 .left)) ∙ word-down _ _ _ (c .before .before .if1 .left)
+
+pub divided-spec : {M : Type 1} → statement M
+divided-spec =
+    tie.close
+    (tie.spec div-m cast-result sub-m div-m-2 sub-result cast-result-2 returns returns-2 returns-3)

@@ -1,0 +1,118 @@
+-- `frame::recognise` meets its contract: each return by the tests that led there.
+-- Assumes nothing.
+use mathlib.Core.Path.{_≡_, sym}
+use Prim.Native.Nat.{_-_}
+use native.Mathlib.Omega.{arith}
+use borrow.Author.Needs.{needs}
+use borrow.Author.Tests.{eq-eqb, ne-eqb}
+use lib.ListN.{length}
+use lib.Seq.{length-take-le}
+use Rattle.pec.specs.Messages.{endsInPec}
+use Rattle.frame.specs.Transactions.{requestOf}
+use Rattle.frame.proofs.recognise.Statement.{statement}
+use Rattle.frame.proofs.recognise.Tie as tie
+
+returns : tie.Need-returns
+unfolding requestOf
+returns c = simp (eq-eqb _ _ (c .if1 .taken))
+
+shared-slice-read-if2 : tie.Need-shared-slice-read-if2
+shared-slice-read-if2 c = search needs
+
+returns-2 : tie.Need-returns-2
+unfolding requestOf
+returns-2 c = simp (ne-eqb _ _ (c .before .before .if1 .left), ne-eqb _ _ (c .if2 .taken))
+
+returns-3 : tie.Need-returns-3
+unfolding requestOf
+returns-3 c =
+    let b = c .before in
+    simp (ne-eqb _ _ (b .before .before .before .if1 .left), eq-eqb _ _ (b .before .if2 .left), b .if3 .taken, ne-eqb _ _ (c .if4 .taken))
+
+shared-slice-read-if5 : tie.Need-shared-slice-read-if5
+shared-slice-read-if5 c = search needs
+
+add-if5 : tie.Need-add-if5
+add-if5 c = search needs
+
+returns-4 : tie.Need-returns-4
+unfolding requestOf
+returns-4 c =
+    let b = c .before .before .before in
+    simp (ne-eqb _ _ (b .before .before .before .if1 .left), eq-eqb _ _ (b .before .if2 .left), b .if3 .taken, eq-eqb _ _ (c .before .before .if4 .left), ne-eqb _ _ (c .if5 .taken))
+
+shared-slice-read-t10 : tie.Need-shared-slice-read-t10
+shared-slice-read-t10 c = search needs
+
+returns-5 : tie.Need-returns-5
+unfolding requestOf
+returns-5 c =
+    let b = c .before .before .before .before in
+    simp (ne-eqb _ _ (b .before .before .before .if1 .left), eq-eqb _ _ (b .before .if2 .left), b .if3 .taken, eq-eqb _ _ (c .before .before .before .if4 .left), eq-eqb _ _ (c .before .if5 .left))
+
+write-of-requires : tie.Need-write-of-requires
+write-of-requires c κs = search needs
+
+returns-6 : tie.Need-returns-6
+unfolding requestOf
+returns-6 c =
+    let b = c .before .before in
+    simp
+    (ne-eqb _ _ (b .before .before .before .if1 .left), eq-eqb _ _ (b .before .if2 .left), b .if3 .left, eq-eqb _ _ (c .before .if6 .taken), ne-eqb (length (c .before .before .before .before .before .before .before .args .bytes .now)) 5 (λ e. omega arith), c .write-of .ensures)
+
+returns-7 : tie.Need-returns-7
+unfolding requestOf
+returns-7 c =
+    let b = c .before .before in
+    simp (ne-eqb _ _ (b .before .before .before .if1 .left), eq-eqb _ _ (b .before .if2 .left), b .if3 .left, ne-eqb _ _ (c .before .if6 .left), ne-eqb _ _ (c .if7 .taken))
+
+shared-slice-read-if8 : tie.Need-shared-slice-read-if8
+shared-slice-read-if8 c = search needs
+
+slice-aggregate-pec : tie.Need-slice-aggregate-pec
+slice-aggregate-pec c = sym (length-take-le 4 (c .before .before .before .before .before .before .before .before .before .args .bytes .now) (omega arith))
+
+pec-requires : tie.Need-pec-requires
+pec-requires c κs = search needs
+
+returns-8 : tie.Need-returns-8
+unfolding requestOf endsInPec
+returns-8 c =
+    let b = c .before .before .before .before .before .before in
+    let e : length (c .before .before .before .before .before .before .before .before .before .before .before .args .bytes .now) - 1 ≡ 4 = omega arith in
+    simp
+    (ne-eqb _ _ (b .before .before .before .if1 .left), eq-eqb _ _ (b .before .if2 .left), b .if3 .left, ne-eqb _ _ (c .before .before .before .before .before .if6 .left), eq-eqb _ _ (c .before .before .before .before .if7 .left), e, ← c .before .pec .ensures, ne-eqb _ _ (c .if8 .taken))
+
+write-of-requires-2 : tie.Need-write-of-requires-2
+write-of-requires-2 c κs = search needs
+
+returns-9 : tie.Need-returns-9
+unfolding requestOf endsInPec
+returns-9 c =
+    let b = c .before .before .before .before .before .before .before in
+    let e : length (c .before .before .before .before .before .before .before .before .before .before .before .before .args .bytes .now) - 1 ≡ 4 = omega arith in
+    simp
+    (c .write-of2 .ensures, ne-eqb _ _ (b .before .before .before .if1 .left), eq-eqb _ _ (b .before .if2 .left), b .if3 .left, ne-eqb _ _ (c .before .before .before .before .before .before .if6 .left), eq-eqb _ _ (c .before .before .before .before .before .if7 .left), e, ← c .before .before .pec .ensures, eq-eqb _ _ (c .before .if8 .left))
+
+pub recognise-spec : {M : Type 1} → statement M
+recognise-spec =
+    tie.close
+    (tie.spec
+    returns
+    shared-slice-read-if2
+    returns-2
+    returns-3
+    shared-slice-read-if5
+    add-if5
+    returns-4
+    shared-slice-read-t10
+    returns-5
+    write-of-requires
+    returns-6
+    returns-7
+    shared-slice-read-if8
+    slice-aggregate-pec
+    pec-requires
+    returns-8
+    write-of-requires-2
+    returns-9)

@@ -1,0 +1,90 @@
+-- Document 01, Answer numbers 3 to 5 and Transactions, for any address, given by its write byte: for the pack 0x16.
+-- Assumes nothing.
+use Prim.Native.Nat.{ℕ, _+_}
+use mathlib.Core.Path.{_≡_}
+use mathlib.Core.Logic.{_⊎_}
+use mathlib.Core.Bool.{Bool, true, false, cond, _&&_, _||_, not}
+use mathlib.Core.List.{List, [], _∷_, _++_}
+use lib.Dec.{eqb}
+use lib.ListN.{length, getD, drop}
+use Rattle.words.specs.Words.{lowOf, highOf, joined}
+use Rattle.pec.specs.Pec.{pecOf}
+use Rattle.pec.specs.Messages.{endsInPec}
+use Rattle.frame.specs.declared.Request.{Request}
+use Rattle.frame.specs.declared.Request.the-variants.{Refused, Read, Write}
+
+-- a message with its PEC
+abbrev pub withPec : List ℕ → List ℕ
+withPec bytes = bytes ++ pecOf bytes ∷ []
+
+-- 3: empty, or first byte isn't the address's write byte
+abbrev pub foreign : ℕ → List ℕ → Bool
+foreign address bytes = eqb (length bytes) 0 || not (eqb (getD bytes 0 0) address)
+
+-- Read: exactly address, command, address + 1
+abbrev pub readBytes : ℕ → ℕ → List ℕ
+readBytes address command = address ∷ command ∷ (address + 1) ∷ []
+
+-- so it has 3 bytes, and the last is address + 1
+abbrev pub readForm : ℕ → List ℕ → Bool
+readForm address bytes = eqb (length bytes) 3 && eqb (getD bytes 2 0) (address + 1)
+
+-- Write: address, command, low, high, with or without PEC
+abbrev pub writeBytes : ℕ → ℕ → ℕ → ℕ → List ℕ
+writeBytes address command low high = address ∷ command ∷ low ∷ high ∷ []
+
+-- so it has 4 or 5 bytes
+abbrev pub writeForm : List ℕ → Bool
+writeForm bytes = eqb (length bytes) 4 || eqb (length bytes) 5
+
+-- 4: wrong size or form, by the driver's mark
+abbrev pub misshapen : ℕ → Bool → List ℕ → Bool
+misshapen address read bytes = not (cond read (readForm address bytes) (writeForm bytes))
+
+-- 5: five-byte write, PEC wrong
+abbrev pub miscoded : Bool → List ℕ → Bool
+miscoded read bytes = not read && (eqb (length bytes) 5 && not (endsInPec bytes))
+
+-- a write's command, its word, low byte first, and whether a PEC stood there
+abbrev pub writeOf : List ℕ → Bool → Request
+writeOf bytes checked = Write (getD bytes 1 0) (joined (getD bytes 2 0) (getD bytes 3 0)) checked
+
+-- what the bytes and the mark ask for; the lowest of the three numbers whose condition holds comes first
+unfoldable pub requestOf : ℕ → Bool → List ℕ → Request
+requestOf address read bytes =
+    cond (foreign address bytes) (Refused 3)
+    (cond (misshapen address read bytes) (Refused 4)
+    (cond (miscoded read bytes) (Refused 5)
+    (cond read (Read (getD bytes 1 0)) (writeOf bytes (eqb (length bytes) 5)))))
+
+-- a refusal's number is the lowest of the three whose condition holds
+abbrev pub Lowest : Bool → Bool → Bool → ℕ → Type 0
+Lowest three four five n =
+    ((n ≡ 3) × (three ≡ true))
+    ⊎ (((n ≡ 4) × (three ≡ false) × (four ≡ true)) ⊎ ((n ≡ 5) × (three ≡ false) × (four ≡ false) × (five ≡ true)))
+
+-- the bytes of a write of a word, checked or not
+abbrev pub WriteBytes : ℕ → ℕ → ℕ → Bool → List ℕ → Type 0
+WriteBytes address command word checked bytes =
+    (low : ℕ) × (high : ℕ) × (word ≡ joined low high)
+    × (bytes ≡ cond checked (withPec (writeBytes address command low high)) (writeBytes address command low high))
+
+-- word replies are low byte first
+abbrev pub wordBody : ℕ → List ℕ
+wordBody w = lowOf w ∷ highOf w ∷ []
+
+-- block replies are count, bytes
+abbrev pub blockBody : List ℕ → List ℕ
+blockBody text = length text ∷ text
+
+-- every reply ends in PEC over request and reply
+unfoldable pub replyOf : List ℕ → List ℕ → List ℕ
+replyOf request body = body ++ pecOf (request ++ body) ∷ []
+
+-- a reader's exchange is what it sent followed by what it heard
+abbrev pub exchangeOf : List ℕ → List ℕ → List ℕ
+exchangeOf request body = request ++ replyOf request body
+
+-- bytes at the front of a room; the rest of the room stays
+abbrev pub placed : List ℕ → List ℕ → List ℕ
+placed bytes room = bytes ++ drop (length bytes) room

@@ -1,0 +1,109 @@
+// What a request is, and how a reply with its PEC or a broadcast message is put into a lent room. Only our own crates call these.
+// It knows no register and no address of its own: an address is given by its write byte.
+ghost use mathlib.Core.Path.{_≡_};
+ghost use Prim.Native.Nat.{_+_, _≤_, _<_};
+ghost use lib.ListN.{length};
+ghost use lib.Seq.{sets};
+ghost use Rattle.frame.specs.Transactions.{requestOf, writeOf, replyOf, wordBody, blockBody, placed};
+ghost use Rattle.frame.specs.Broadcasts.{messageOf};
+
+// What the driver's bytes and mark ask for; or the answer 3, 4 or 5.
+pub enum Request {
+    Refused(u8),
+    Read(u8),
+    Write {
+        command: u8,
+        word: u16,
+        checked: bool,
+    },
+}
+
+pub fn recognise(address: u8, read: bool, bytes: &[u8]) -> Request
+    requires { ⌜ address < 255 ⌝ }
+    ensures { λ r. ⌜ r ≡ requestOf address read (now (bytes .entry)) ⌝ }
+{
+    let n = bytes.len();
+    if n == 0 {
+        return Request::Refused(3);
+    }
+    if bytes[0] != address {
+        return Request::Refused(3);
+    }
+    if read {
+        if n != 3 {
+            return Request::Refused(4);
+        }
+        if bytes[2] != address + 1 {
+            return Request::Refused(4);
+        }
+        return Request::Read(bytes[1]);
+    }
+    if n == 4 {
+        return write_of(bytes, false);
+    }
+    if n != 5 {
+        return Request::Refused(4);
+    }
+    if bytes[4] != pec::pec(&bytes[..4]) {
+        return Request::Refused(5);
+    }
+    write_of(bytes, true)
+}
+
+// Address, command, low, high.
+fn write_of(bytes: &[u8], checked: bool) -> Request
+    requires { ⌜ 4 ≤ length (now bytes) ⌝ }
+    ensures { λ r. ⌜ r ≡ writeOf (now (bytes .entry)) checked ⌝ }
+{
+    Request::Write {
+        command: bytes[1],
+        word: words::join(bytes[2], bytes[3]),
+        checked: checked,
+    }
+}
+
+// A word reply at the front of the room; its length.
+pub fn put_word(room: &mut [u8], request: &[u8], w: u16) -> usize
+    requires { ⌜ 3 ≤ length (now room) ⌝ }
+    ensures length { λ r. ⌜ r ≡ length (replyOf (now (request .entry)) (wordBody w)) ⌝ }
+    ensures memory { λ r. ⌜ now (room .exit) ≡ placed (replyOf (now (request .entry)) (wordBody w)) (now (room .entry)) ⌝ }
+{
+    let low = words::low(w);
+    let high = words::high(w);
+    let start = pec::pec(request);
+    let check = pec::pec_step(pec::pec_step(start, low), high);
+    room[0] = low;
+    room[1] = high;
+    room[2] = check;
+    3
+}
+
+// A block reply at the front of the room; its length.
+pub fn put_block(room: &mut [u8], request: &[u8], text: &[u8]) -> usize
+    requires { ⌜ (length (now text) ≤ 32) × (length (now text) + 2 ≤ length (now room)) ⌝ }
+    ensures length { λ r. ⌜ r ≡ length (replyOf (now (request .entry)) (blockBody (now (text .entry)))) ⌝ }
+    ensures memory { λ r. ⌜ now (room .exit) ≡ placed (replyOf (now (request .entry)) (blockBody (now (text .entry)))) (now (room .entry)) ⌝ }
+{
+    let n = text.len();
+    let last = n + 1;
+    let count = n as u8;
+    let start = pec::pec(request);
+    let check = pec::pec_from(pec::pec_step(start, count), text);
+    room[0] = count;
+    room[last] = check;
+    bytes::copy(text, &mut room[1..]);
+    n + 2
+}
+
+// A broadcast message from the place at on; the place after it.
+pub fn put_message(room: &mut [u8], at: usize, address: u8, command: u8, word: u16) -> usize
+    requires { ⌜ at + 4 ≤ length (now room) ⌝ }
+    ensures length { λ r. ⌜ r ≡ at + length (messageOf address command word) ⌝ }
+    ensures memory { λ r. ⌜ now (room .exit) ≡ sets (now (room .entry)) at (messageOf address command word) ⌝ }
+{
+    room[at] = address;
+    room[at + 1] = command;
+    room[at + 2] = words::low(word);
+    room[at + 3] = words::high(word);
+    at + 4
+}

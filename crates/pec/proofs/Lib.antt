@@ -1,0 +1,4 @@
+pub mod Join
+pub mod Loops
+pub mod Table
+pub mod Unique

@@ -1,0 +1,67 @@
+-- `pec::bits_apart` meets its contract. The loop's invariant: the sum so far, with the bits in which what is left differs, is the whole.
+-- The measure is what is left of the length. Assumes nothing.
+use mathlib.Core.Path.{_≡_}
+use Prim.Native.Nat.{_≤_, _+_, _*_, _-_}
+use native.Mathlib.Omega.{arith}
+use borrow.Author.Needs.{needs}
+use lib.Bits.{bitXor}
+use lib.Count.{ones}
+use lib.ListN.{length, drop, getD}
+use Rattle.pec.specs.Messages.{bitsApart}
+use Rattle.pec.proofs.Loops.{apart-next, apart-end, apart-le}
+use Rattle.pec.proofs.bits_apart.Statement.{statement}
+use Rattle.pec.proofs.bits_apart.Tie as tie
+
+abbrev Inv-loop : tie.InvT-loop
+Inv-loop a b sum₀ i₀ sum i = (i ≤ length a) × (sum + bitsApart (drop i a) (drop i b) ≡ bitsApart a b) × (sum ≤ 8 * i)
+
+abbrev μ-loop : tie.MeasureT-loop
+μ-loop a b sum₀ i₀ sum i = length a - i
+
+loop-holds : tie.Need-loop-holds Inv-loop μ-loop
+loop-holds c = omega arith
+
+shared-slice-read-sum : tie.Need-shared-slice-read-sum Inv-loop μ-loop
+shared-slice-read-sum c = search needs
+
+shared-slice-read-sum-2 : tie.Need-shared-slice-read-sum-2 Inv-loop μ-loop
+shared-slice-read-sum-2 c = search needs
+
+-- a turn adds at most eight
+at-most : (c : tie.After-shared-slice-known2 Inv-loop μ-loop)
+    → ones (bitXor (getD (c .before .before .before .before .args .a .now) (c .before .before .before .loop .i) 0) (getD (c .before .before .before .before .args .b .now) (c .before .before .before .loop .i) 0)) ≤ 8
+at-most c =
+    apart-le _ _ (c .before .shared-slice-known .given (c .before .before .before .loop .i) .fits)
+    (c .shared-slice-known2 .given (c .before .before .before .loop .i) .fits)
+
+add-sum : tie.Need-add-sum Inv-loop μ-loop
+add-sum c = omega (arith, at-most c)
+
+add-i : tie.Need-add-i Inv-loop μ-loop
+add-i c = search needs
+
+loop-less : tie.Need-loop-less Inv-loop μ-loop
+loop-less c = search needs
+
+loop-again : tie.Need-loop-again Inv-loop μ-loop
+loop-again c =
+    let n = apart-next (c .before .before .before .before .args .a .now) (c .before .before .before .before .args .b .now) (c .before .before .before .loop .i) (omega arith) (omega arith) in
+    (omega arith, omega (arith, n), omega (arith, at-most c))
+
+returns : tie.Need-returns Inv-loop μ-loop
+returns c = omega (arith, apart-end (c .before .before .args .a .now) (c .before .before .args .b .now) (c .before .loop .i) (omega arith))
+
+pub bits-apart-spec : {M : Type 1} → statement M
+bits-apart-spec =
+    tie.close
+    (tie.spec
+    Inv-loop
+    μ-loop
+    loop-holds
+    shared-slice-read-sum
+    shared-slice-read-sum-2
+    add-sum
+    add-i
+    loop-less
+    loop-again
+    returns)

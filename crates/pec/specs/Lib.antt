@@ -1,0 +1,2 @@
+pub mod Pec
+pub mod Messages

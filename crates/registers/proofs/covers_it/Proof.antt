@@ -1,0 +1,66 @@
+use Prim.Native.Nat.{_≤_}
+use borrow.Author.Needs.{needs}
+use native.Mathlib.Nat.{mul-le-mul}
+use native.Mathlib.Omega.{arith}
+use Rattle.registers.proofs.covers_it.Statement.{statement}
+use Rattle.registers.proofs.covers_it.Tie as tie
+
+size-requires : tie.Need-size-requires
+size-requires c κs = search needs
+
+cast-rate : tie.Need-cast-rate
+cast-rate c = search needs
+
+present-discharge-requires : tie.Need-present-discharge-requires
+present-discharge-requires c κs = search needs
+
+cast-drawn : tie.Need-cast-drawn
+cast-drawn c = search needs
+
+product-requires : tie.Need-product-requires
+product-requires c κs = search needs
+
+product-requires-2 : tie.Need-product-requires-2
+product-requires-2 c κs = search needs
+
+mul-result : tie.Need-mul-result
+mul-result c = search needs
+
+mul-result-2 : tie.Need-mul-result-2
+mul-result-2 c =
+    let low : c .before .before .before .before .before .args .p .settings .DesignVoltage ≤ 65535 = omega arith in
+    omega (arith, mul-le-mul (c .before .before .before .present-discharge .ensures .1) low, c .before .product .ensures)
+
+add-result : tie.Need-add-result
+add-result c = omega (arith, mul-result-2 c)
+
+returns : tie.Need-returns
+returns c =
+    simp (c .product2 .ensures, c .before .product .ensures, c .before .before .if1 .taken, c .before .before .before .present-discharge .ensures .0, c .before .before .before .before .size .ensures .0)
+
+add-result-2 : tie.Need-add-result-2
+add-result-2 c = search needs
+
+mul-result-3 : tie.Need-mul-result-3
+mul-result-3 c = search needs
+
+returns-2 : tie.Need-returns-2
+returns-2 c = simp (c .before .if1 .left, c .before .before .present-discharge .ensures .0, c .before .before .before .size .ensures .0)
+
+pub covers-it-spec : {M : Type 1} → statement M
+covers-it-spec =
+    tie.close
+    (tie.spec
+    size-requires
+    cast-rate
+    present-discharge-requires
+    cast-drawn
+    product-requires
+    product-requires-2
+    mul-result
+    add-result
+    mul-result-2
+    returns
+    add-result-2
+    mul-result-3
+    returns-2)

@@ -1,0 +1,205 @@
+// The words that are numbers of their own: pure functions of the pack. Only our own crates call these.
+ghost use mathlib.Core.Path.{_≡_};
+ghost use mathlib.Core.Bool.{cond};
+ghost use Prim.Native.Nat.{_≤_, _<_};
+ghost use Rattle.registers.specs.Registers.{Measured, batteryMode, capacityOf, remainingCapacity, fullChargeCapacity, designCapacity, relativeStateOfCharge, absoluteStateOfCharge, minutesIf, missing, atRateTimeToEmpty, atRateTimeToFull, presentDischarge, covers, atRateOK, rateOf, timeToEmptyAt, runTimeToEmpty, averageTimeToEmpty, averageTimeToFull};
+ghost use Rattle.words.specs.Capacity.{milliampMs};
+use pack::Host;
+use pack::Pack;
+
+// What a bit of this weight adds to a word.
+pub fn flag(on: bool, weight: u16) -> u16
+    ensures is { λ r. ⌜ r ≡ cond on weight 0 ⌝ }
+    ensures small { λ r. ⌜ r ≤ weight ⌝ }
+{
+    if on { weight } else { 0 }
+}
+
+// 03.
+pub fn battery_mode(h: Host) -> u16
+    ensures { λ r. ⌜ r ≡ batteryMode h ⌝ }
+{
+    flag(h.AlarmMode, 8192) + flag(h.ChargerMode, 16384) + flag(h.CapacityMode, 32768)
+}
+
+fn capacity_of(p: Pack, capacity: u16) -> u16
+    ensures { λ r. ⌜ r ≡ capacityOf p capacity ⌝ }
+{
+    if p.host.CapacityMode {
+        return words::capped(words::power(capacity as u64, p.settings.DesignVoltage));
+    }
+    capacity
+}
+
+// 0F.
+pub fn remaining_capacity(p: Pack) -> u16
+    requires { ⌜ p .tank .charge ≤ milliampMs (p .tank .full) ⌝ }
+    ensures { λ r. ⌜ r ≡ remainingCapacity p ⌝ }
+{
+    if p.host.CapacityMode {
+        return words::capped(words::energy(p.tank.charge, p.settings.DesignVoltage));
+    }
+    (p.tank.charge / 3600000) as u16
+}
+
+// 10.
+pub fn full_charge_capacity(p: Pack) -> u16
+    ensures { λ r. ⌜ r ≡ fullChargeCapacity p ⌝ }
+{
+    capacity_of(p, p.tank.full)
+}
+
+// 18.
+pub fn design_capacity(p: Pack) -> u16
+    ensures { λ r. ⌜ r ≡ designCapacity p ⌝ }
+{
+    capacity_of(p, p.settings.DesignCapacity)
+}
+
+// 0D.
+pub fn relative_state_of_charge(p: Pack) -> u16
+    requires { ⌜ (p .tank .charge ≤ milliampMs (p .tank .full)) × (0 < p .tank .full) ⌝ }
+    ensures { λ r. ⌜ r ≡ relativeStateOfCharge p ⌝ }
+{
+    words::relative(p.tank.charge, p.tank.full)
+}
+
+// 0E.
+pub fn absolute_state_of_charge(p: Pack) -> u16
+    requires { ⌜ (p .tank .charge ≤ milliampMs (p .tank .full)) × (0 < p .settings .DesignCapacity) ⌝ }
+    ensures { λ r. ⌜ r ≡ absoluteStateOfCharge p ⌝ }
+{
+    words::capped(words::percent(p.tank.charge, p.settings.DesignCapacity))
+}
+
+fn minutes_if(flows: bool, capacity: u16, rate: u32) -> u16
+    ensures { λ r. ⌜ r ≡ minutesIf flows capacity rate ⌝ }
+{
+    if flows {
+        return words::minutes(capacity, rate);
+    }
+    65535
+}
+
+// 06.
+pub fn at_rate_time_to_empty(p: Pack) -> u16
+    requires { ⌜ p .tank .charge ≤ milliampMs (p .tank .full) ⌝ }
+    ensures { λ r. ⌜ r ≡ atRateTimeToEmpty p ⌝ }
+{
+    let flows = words::falls(p.host.AtRate);
+    let remaining = remaining_capacity(p);
+    let rate = words::size(p.host.AtRate);
+    minutes_if(flows, remaining, rate)
+}
+
+// Full minus remaining, of the words 10 and 0F.
+fn missing_capacity(p: Pack) -> u16
+    requires { ⌜ p .tank .charge ≤ milliampMs (p .tank .full) ⌝ }
+    ensures { λ r. ⌜ r ≡ missing p ⌝ }
+{
+    let full = full_charge_capacity(p);
+    let remaining = remaining_capacity(p);
+    full - remaining
+}
+
+// 05.
+pub fn at_rate_time_to_full(p: Pack) -> u16
+    requires { ⌜ p .tank .charge ≤ milliampMs (p .tank .full) ⌝ }
+    ensures { λ r. ⌜ r ≡ atRateTimeToFull p ⌝ }
+{
+    if p.host.CapacityMode {
+        return 65535;
+    }
+    let flows = words::rises(p.host.AtRate);
+    let left = missing_capacity(p);
+    let rate = words::size(p.host.AtRate);
+    minutes_if(flows, left, rate)
+}
+
+// The mA of the present discharge.
+fn present_discharge(p: Pack) -> u32
+    ensures is { λ r. ⌜ r ≡ presentDischarge p ⌝ }
+    ensures small { λ r. ⌜ r ≤ 32768 ⌝ }
+{
+    if words::falls(p.latest.current) {
+        return words::size(p.latest.current);
+    }
+    0
+}
+
+// Whether charge covers 10 s of the rate beside the present discharge.
+fn covers_it(p: Pack) -> bool
+    requires { ⌜ p .tank .charge ≤ milliampMs (p .tank .full) ⌝ }
+    ensures { λ r. ⌜ r ≡ covers p ⌝ }
+{
+    let rate = words::size(p.host.AtRate) as u64;
+    let drawn = present_discharge(p) as u64;
+    if p.host.CapacityMode {
+        let used = words::product(drawn, p.settings.DesignVoltage);
+        let held = words::product(p.tank.charge, p.settings.DesignVoltage);
+        return 10000 * (10000 * rate + used) <= held;
+    }
+    10000 * (rate + drawn) <= p.tank.charge
+}
+
+// 07.
+pub fn at_rate_ok(p: Pack) -> u16
+    requires { ⌜ p .tank .charge ≤ milliampMs (p .tank .full) ⌝ }
+    ensures { λ r. ⌜ r ≡ atRateOK p ⌝ }
+{
+    if words::falls(p.host.AtRate) {
+        return flag(covers_it(p), 1);
+    }
+    1
+}
+
+// A current as a rate: mA, in power mode 10 mW.
+fn rate_of(p: Pack, current: u16) -> u32
+    ensures { λ r. ⌜ r ≡ rateOf p current ⌝ }
+{
+    let size = words::size(current);
+    if p.host.CapacityMode {
+        return words::power(size as u64, p.latest.voltage) as u32;
+    }
+    size
+}
+
+fn time_to_empty_at(p: Pack, current: u16) -> u16
+    requires { ⌜ p .tank .charge ≤ milliampMs (p .tank .full) ⌝ }
+    ensures { λ r. ⌜ r ≡ timeToEmptyAt p current ⌝ }
+{
+    let flows = words::falls(current);
+    let remaining = remaining_capacity(p);
+    let rate = rate_of(p, current);
+    minutes_if(flows, remaining, rate)
+}
+
+// 11.
+pub fn run_time_to_empty(p: Pack) -> u16
+    requires { ⌜ p .tank .charge ≤ milliampMs (p .tank .full) ⌝ }
+    ensures { λ r. ⌜ r ≡ runTimeToEmpty p ⌝ }
+{
+    time_to_empty_at(p, p.latest.current)
+}
+
+// 12.
+pub fn average_time_to_empty(p: Pack) -> u16
+    requires { ⌜ Measured p ⌝ }
+    ensures { λ r. ⌜ r ≡ averageTimeToEmpty p ⌝ }
+{
+    let kept = p.kept;
+    time_to_empty_at(p, average::average(kept))
+}
+
+// 13.
+pub fn average_time_to_full(p: Pack) -> u16
+    requires { ⌜ Measured p ⌝ }
+    ensures { λ r. ⌜ r ≡ averageTimeToFull p ⌝ }
+{
+    let kept = p.kept;
+    let current = average::average(kept);
+    let flows = words::rises(current);
+    let left = missing_capacity(p);
+    let rate = rate_of(p, current);
+    minutes_if(flows, left, rate)
+}

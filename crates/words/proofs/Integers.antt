@@ -1,0 +1,64 @@
+-- A signed word's direction and size are those of the integer it stands for.
+-- Assumes nothing.
+use Prim.Native.Nat.{ℕ, suc, _-_, _<_, _≤_}
+use mathlib.Core.Bool.{Bool, true, false, _&&_}
+use mathlib.Core.Path.{_≡_, refl, ap, _∙_, sym}
+use native.Mathlib.Omega.{arith}
+use native.Mathlib.Decide.{decLt}
+use borrow.Author.Tests.{lt-ltb, le-ltb, le-leb, lt-leb}
+use lib.Dec.{ltb}
+use lib.IntN.{ℤ, pos, negsuc, natAbs}
+use lib.Signed.{ltZ}
+use mir.Syntax.{w16}
+use mir.Val.{toZ}
+use Rattle.words.specs.Words.{above, below, sizeOf}
+
+by-dec : {P : Type 0} (w : ℕ) → Dec (w < 32768) → (w < 32768 → P) → (32768 ≤ w → P) → P
+by-dec w (yes h) f g = f h
+by-dec w (no n) f g = g (omega (arith, n))
+
+-- a word below 32,768 is itself, any other stands for 65,536 less
+half : {P : Type 0} (w : ℕ) → (w < 32768 → P) → (32768 ≤ w → P) → P
+half w f g = by-dec w (decLt w 32768) f g
+
+low : (w : ℕ) → w < 32768 → toZ w16 w ≡ pos w
+low w h = simp (lt-ltb w 32768 h)
+
+high : (w : ℕ) → 32768 ≤ w → toZ w16 w ≡ negsuc (65536 - suc w)
+high w h = simp (le-ltb w 32768 h)
+
+and-true : (a : Bool) → a && true ≡ a
+and-true true = refl
+and-true false = refl
+
+and-false : (a : Bool) → a && false ≡ false
+and-false true = refl
+and-false false = refl
+
+-- above 0
+pub above-is : (w : ℕ) → above w ≡ ltZ (pos 0) (toZ w16 w)
+above-is w =
+    half w (λ h. ap (λ (b : Bool). ltb 0 w && b) (lt-ltb w 32768 h) ∙ and-true (ltb 0 w) ∙ ap (ltZ (pos 0)) (sym (low w h)))
+    (λ h. ap (λ (b : Bool). ltb 0 w && b) (le-ltb w 32768 h) ∙ and-false (ltb 0 w) ∙ ap (ltZ (pos 0)) (sym (high w h)))
+
+-- below 0
+pub below-is : (w : ℕ) → below w ≡ ltZ (toZ w16 w) (pos 0)
+below-is w =
+    half w (λ h. lt-leb 32768 w h ∙ sym (le-ltb w 0 (omega arith)) ∙ ap (λ (z : ℤ). ltZ z (pos 0)) (sym (low w h)))
+    (λ h. le-leb 32768 w h ∙ ap (λ (z : ℤ). ltZ z (pos 0)) (sym (high w h)))
+
+size-low : (w : ℕ) → w < 32768 → sizeOf w ≡ w
+size-low w h = simp (lt-leb 32768 w h)
+
+size-high : (w : ℕ) → 32768 ≤ w → sizeOf w ≡ 65536 - w
+size-high w h = simp (le-leb 32768 w h)
+
+-- the size of a word
+pub size-is : (w : ℕ) → w < 65536 → sizeOf w ≡ natAbs (toZ w16 w)
+size-is w l =
+    half w (λ h. size-low w h ∙ ap natAbs (sym (low w h)))
+    (λ h. let e : 65536 - w ≡ suc (65536 - suc w) = omega arith in size-high w h ∙ e ∙ ap natAbs (sym (high w h)))
+
+-- it is at most 32,768
+pub size-most : (w : ℕ) → sizeOf w ≤ 32768
+size-most w = half w (λ h. omega (arith, size-low w h)) (λ h. omega (arith, size-high w h))
