@@ -1,0 +1,4 @@
+pub mod Rows
+pub mod Names
+pub mod Stores
+pub mod Laid

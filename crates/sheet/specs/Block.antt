@@ -1,0 +1,67 @@
+-- Which part of which sheet is shown as a block name. Definitions: assumes nothing.
+use mathlib.Core.Bool.{Bool, true, false, cond, _&&_}
+use mathlib.Core.List.{List, []}
+use mathlib.Core.Option.{Option, none, some}
+use Prim.Native.Nat.{ℕ, zero, suc, _+_, _-_}
+use lib.Dec.{eqb}
+use lib.ListN.{getD, take, drop}
+use Rattle.sheet.specs.declared.Found.{Found}
+use Rattle.sheet.specs.declared.Found.the-variants.{At, Nothing}
+use Rattle.sheet.specs.Sheet.{tagAt, lengthAt, offsetAt, isSheet}
+
+-- where the body of a tag lies, from its first byte to past its last, by the first of n rows from byte `at` on that has the tag
+unfoldable pub findRow : ℕ → List ℕ → ℕ → ℕ → Found
+findRow zero s at tag = Nothing
+findRow (suc n) s at tag = cond (eqb (tagAt s at) tag) (At (offsetAt s at) (offsetAt s at + lengthAt s at)) (findRow n s (at + 4) tag)
+
+-- the same, by the rows of a sheet
+abbrev pub findIn : List ℕ → ℕ → Found
+findIn s tag = findRow (getD s 0 0) s 1 tag
+
+-- the bytes of s from a up to e
+abbrev pub between : List ℕ → ℕ → ℕ → List ℕ
+between s a e = take (e - a) (drop a s)
+
+-- what a sheet lists under a tag: a body or none
+abbrev pub foundIn : Found → List ℕ → Option (List ℕ)
+foundIn (At a e) s = some (between s a e)
+foundIn Nothing s = none
+
+unfoldable pub bodyIn : List ℕ → ℕ → Option (List ℕ)
+bodyIn s tag = foundIn (findIn s tag) s
+
+-- a part, from its first byte to past its last, of the service sheet or of the factory sheet
+pub data Part : Type 0 where
+  ofService ofFactory : ℕ → ℕ → Part
+
+-- the service sheet's if listed there, else the factory sheet's; listed in neither: no bytes of the factory sheet
+abbrev pub firstOf : Found → Found → Part
+firstOf (At a e) other = ofService a e
+firstOf Nothing (At a e) = ofFactory a e
+firstOf Nothing Nothing = ofFactory 0 0
+
+-- both are sheets
+abbrev pub goodSheets : List ℕ → List ℕ → Bool
+goodSheets service factory = isSheet service && isSheet factory
+
+-- the part that is shown; of a bad sheet no bytes of the factory sheet
+unfoldable pub partOf : List ℕ → List ℕ → ℕ → Part
+partOf service factory tag = cond (goodSheets service factory) (firstOf (findIn service tag) (findIn factory tag)) (ofFactory 0 0)
+
+-- a part's bytes
+abbrev pub bytesOf : Part → List ℕ → List ℕ → List ℕ
+bytesOf (ofService a e) service factory = between service a e
+bytesOf (ofFactory a e) service factory = between factory a e
+
+-- the place in memory where a part starts, from those of the two sheets (a block of memory, and a byte in it)
+abbrev pub placeOf : Part → ℕ × ℕ → ℕ × ℕ → ℕ × ℕ
+placeOf (ofService a e) service factory = (service .0, a + service .1)
+placeOf (ofFactory a e) service factory = (factory .0, a + factory .1)
+
+-- the block name
+unfoldable pub blockOf : List ℕ → List ℕ → ℕ → List ℕ
+blockOf service factory tag = bytesOf (partOf service factory tag) service factory
+
+-- the answer number: 9 where a sheet is bad
+unfoldable pub blockAnswer : List ℕ → List ℕ → ℕ
+blockAnswer service factory = cond (goodSheets service factory) 0 9
