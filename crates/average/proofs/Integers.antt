@@ -1,27 +1,21 @@
 -- Integers as differences of natural numbers: sums, quotients cut toward zero, and their 16-bit words.
 -- Assumes nothing.
 use Prim.Native.Nat.{ℕ, zero, suc, _+_, _-_, _*_, _/_, _<_, _≤_}
-use mathlib.Core.Path.{_≡_, ap, _∙_, sym, subst}
+use mathlib.Core.Path.{_≡_, ap, _∙_, sym}
 use native.Mathlib.Omega.{arith}
-use native.Mathlib.Decide.{decLt}
 use native.Mathlib.Nat.{mul-comm, div-le-of-le-mul}
 use borrow.Author.Tests.{lt-ltb, le-ltb}
 use lib.IntN.{ℤ, pos, negsuc, negℤ, subℕ, _+ℤ_}
 use lib.Signed.{quotZ}
 use mir.Syntax.{w16}
 use mir.Val.{toZ, ofZ}
+use Rattle.words.proofs.Integers.{split, low, high}
 
-by-dec : {P : Type 0} (x y : ℕ) → Dec (x < y) → (x < y → P) → (y ≤ x → P) → P
-by-dec x y (yes h) f g = f h
-by-dec x y (no n) f g = g (omega (arith, n))
-
-split : {P : Type 0} (x y : ℕ) → (x < y → P) → (y ≤ x → P) → P
-split x y f g = by-dec x y (decLt x y) f g
-
-sub-lt : (x y : ℕ) → x < y → subℕ x y ≡ negsuc (y - suc x)
+-- a difference below 0, and one of 0 or above
+pub sub-lt : (x y : ℕ) → x < y → subℕ x y ≡ negsuc (y - suc x)
 sub-lt x y h = simp (lt-ltb x y h)
 
-sub-ge : (x y : ℕ) → y ≤ x → subℕ x y ≡ pos (x - y)
+pub sub-ge : (x y : ℕ) → y ≤ x → subℕ x y ≡ pos (x - y)
 sub-ge x y h = simp (le-ltb x y h)
 
 sub-eq : (x y x' y' : ℕ) → x + y' ≡ x' + y → subℕ x y ≡ subℕ x' y'
@@ -41,18 +35,18 @@ add-neg a b k =
 
 -- a word below 32,768 comes in
 pub add-in : (a b w : ℕ) → w < 32768 → subℕ (a + w) b ≡ subℕ a b +ℤ toZ w16 w
-add-in a b w h = sym (ap (λ (z : ℤ). subℕ a b +ℤ z) (simp (lt-ltb w 32768 h)) ∙ add-pos a b w)
+add-in a b w h = sym (ap (λ (z : ℤ). subℕ a b +ℤ z) (low w h) ∙ add-pos a b w)
 
 -- any other goes out, as 65,536 minus it
 pub add-out : (a b w : ℕ) → 32768 ≤ w → w < 65536 → subℕ a (b + (65536 - w)) ≡ subℕ a b +ℤ toZ w16 w
 add-out a b w h l =
     sym
-    (ap (λ (z : ℤ). subℕ a b +ℤ z) (simp (le-ltb w 32768 h)) ∙ add-neg a b (65536 - suc w)
+    (ap (λ (z : ℤ). subℕ a b +ℤ z) (high w h) ∙ add-neg a b (65536 - suc w)
     ∙ sub-eq a (b + suc (65536 - suc w)) a (b + (65536 - w)) (omega arith))
 
 -- a sum of n sizes, over n
-pub at-most : (x y n : ℕ) → x ≤ 32768 * n → (x - y) / n ≤ 32768
-at-most x y n h = div-le-of-le-mul n (subst (λ (m : ℕ). x - y ≤ m) (mul-comm 32768 n) (omega arith))
+pub over : (x n : ℕ) → x ≤ 32768 * n → x / n ≤ 32768
+over x n h = div-le-of-le-mul n (omega (arith, mul-comm 32768 n))
 
 -- the word of a quotient of 0 or above
 pub word-up : (ins outs n : ℕ) → outs ≤ ins → (ins - outs) / n ≡ ofZ w16 (quotZ (subℕ ins outs) (pos n))

@@ -9,9 +9,9 @@ ghost use Rattle.average.specs.Average.{sumOf, averageOf};
 use pack::Kept;
 
 // A signed sum as what came in and what went out.
-pub struct Net {
-    pub ins: u32,
-    pub outs: u32,
+struct Net {
+    ins: u32,
+    outs: u32,
 }
 
 fn added(s: Net, w: u16) -> Net

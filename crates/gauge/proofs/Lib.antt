@@ -1,1 +1,4 @@
+pub mod Bits
+pub mod Range
 pub mod Soundness
+pub mod Words

@@ -1,19 +1,53 @@
--- Laws of the register words.
+-- Laws of the register words: 0F never above 10, and every one of them a word.
 -- Assumes nothing.
-use Prim.Native.Nat.{ℕ, _≤_, _*_, _/_, min}
+use Prim.Native.Nat.{ℕ, _≤_}
 use mathlib.Core.Bool.{Bool, true, false, cond}
-use native.Mathlib.Nat.{mul-le-mul-right}
 use native.Mathlib.Omega.{arith}
+use Rattle.pack.specs.declared.Host.{Host}
 use Rattle.pack.specs.declared.Pack.{Pack}
-use Rattle.registers.specs.Registers.{remainingCapacity, fullChargeCapacity}
+use Rattle.registers.specs.Registers.{batteryMode, capacityOf, remainingCapacity, fullChargeCapacity, minutesIf, missing, atRateTimeToFull, atRateOK, covers}
+use Rattle.words.proofs.Bounds.{energy-most, mAh-most, minutes-most}
 use Rattle.words.specs.Capacity.{milliampMs}
+use Rattle.words.specs.Words.{above, below, sizeOf}
 
-cond-le : (c : Bool) (a b x y : ℕ) → a ≤ x → b ≤ y → cond c a b ≤ cond c x y
-cond-le true a b x y ax by = ax
-cond-le false a b x y ax by = by
+either : (b : Bool) (x y most : ℕ) → x ≤ most → y ≤ most → cond b x y ≤ most
+either true x y most f g = f
+either false x y most f g = g
+
+each : (b : Bool) (x y u v : ℕ) → x ≤ u → y ≤ v → cond b x y ≤ cond b u v
+each true x y u v f g = f
+each false x y u v f g = g
 
 -- 0F is never above 10, in either mode, so full minus remaining means what it says
 pub remaining-at-most-full : (p : Pack) → p .tank .charge ≤ milliampMs (p .tank .full) → remainingCapacity p ≤ fullChargeCapacity p
 unfolding remainingCapacity fullChargeCapacity
 remaining-at-most-full p h =
-    cond-le (p .host .CapacityMode) _ _ _ _ (omega (arith, mul-le-mul-right (p .settings .DesignVoltage) h)) (omega arith)
+    each (p .host .CapacityMode) _ _ _ _ (omega (arith, energy-most (p .tank .charge) (p .tank .full) (p .settings .DesignVoltage) h))
+    (mAh-most (p .tank .charge) (p .tank .full) h)
+
+-- a capacity of 16 bits stays one in either mode
+pub capacity-word : (p : Pack) (capacity : ℕ) → capacity ≤ 65535 → capacityOf p capacity ≤ 65535
+capacity-word p capacity h = either (p .host .CapacityMode) _ _ _ (omega arith) h
+
+-- minutes and the mark for none
+pub minutes-word : (flows : Bool) (capacity rate : ℕ) → minutesIf flows capacity rate ≤ 65535
+minutes-word flows capacity rate = either flows _ _ _ (omega (arith, minutes-most capacity rate)) (omega arith)
+
+-- 05
+pub to-full-word : (p : Pack) → atRateTimeToFull p ≤ 65535
+to-full-word p = either (p .host .CapacityMode) _ _ _ (omega arith)
+    (minutes-word (above (p .host .AtRate)) (missing p) (sizeOf (p .host .AtRate)))
+
+-- 07
+pub ok-word : (p : Pack) → atRateOK p ≤ 1
+ok-word p = either (below (p .host .AtRate)) _ _ _ (either (covers p) _ _ _ (omega arith) (omega arith)) (omega arith)
+
+-- 03
+pub mode-word : (h : Host) → batteryMode h ≤ 65535
+mode-word h =
+    omega (
+      arith,
+      either (h .AlarmMode) 8192 0 8192 (omega arith) (omega arith),
+      either (h .ChargerMode) 16384 0 16384 (omega arith) (omega arith),
+      either (h .CapacityMode) 32768 0 32768 (omega arith) (omega arith),
+    )

@@ -13,18 +13,20 @@ use mir.Syntax.{w16}
 use mir.Val.{toZ}
 use Rattle.words.specs.Words.{above, below, sizeOf}
 
-by-dec : {P : Type 0} (w : ℕ) → Dec (w < 32768) → (w < 32768 → P) → (32768 ≤ w → P) → P
-by-dec w (yes h) f g = f h
-by-dec w (no n) f g = g (omega (arith, n))
+by-dec : {P : Type 0} (x y : ℕ) → Dec (x < y) → (x < y → P) → (y ≤ x → P) → P
+by-dec x y (yes h) f g = f h
+by-dec x y (no n) f g = g (omega (arith, n))
 
--- a word below 32,768 is itself, any other stands for 65,536 less
-half : {P : Type 0} (w : ℕ) → (w < 32768 → P) → (32768 ≤ w → P) → P
-half w f g = by-dec w (decLt w 32768) f g
+-- two numbers, one case or the other
+pub split : {P : Type 0} (x y : ℕ) → (x < y → P) → (y ≤ x → P) → P
+split x y f g = by-dec x y (decLt x y) f g
 
-low : (w : ℕ) → w < 32768 → toZ w16 w ≡ pos w
+-- a word below 32,768 stands for itself
+pub low : (w : ℕ) → w < 32768 → toZ w16 w ≡ pos w
 low w h = simp (lt-ltb w 32768 h)
 
-high : (w : ℕ) → 32768 ≤ w → toZ w16 w ≡ negsuc (65536 - suc w)
+-- any other stands for 65,536 less
+pub high : (w : ℕ) → 32768 ≤ w → toZ w16 w ≡ negsuc (65536 - suc w)
 high w h = simp (le-ltb w 32768 h)
 
 and-true : (a : Bool) → a && true ≡ a
@@ -38,13 +40,13 @@ and-false false = refl
 -- above 0
 pub above-is : (w : ℕ) → above w ≡ ltZ (pos 0) (toZ w16 w)
 above-is w =
-    half w (λ h. ap (λ (b : Bool). ltb 0 w && b) (lt-ltb w 32768 h) ∙ and-true (ltb 0 w) ∙ ap (ltZ (pos 0)) (sym (low w h)))
+    split w 32768 (λ h. ap (λ (b : Bool). ltb 0 w && b) (lt-ltb w 32768 h) ∙ and-true (ltb 0 w) ∙ ap (ltZ (pos 0)) (sym (low w h)))
     (λ h. ap (λ (b : Bool). ltb 0 w && b) (le-ltb w 32768 h) ∙ and-false (ltb 0 w) ∙ ap (ltZ (pos 0)) (sym (high w h)))
 
 -- below 0
 pub below-is : (w : ℕ) → below w ≡ ltZ (toZ w16 w) (pos 0)
 below-is w =
-    half w (λ h. lt-leb 32768 w h ∙ sym (le-ltb w 0 (omega arith)) ∙ ap (λ (z : ℤ). ltZ z (pos 0)) (sym (low w h)))
+    split w 32768 (λ h. lt-leb 32768 w h ∙ sym (le-ltb w 0 (omega arith)) ∙ ap (λ (z : ℤ). ltZ z (pos 0)) (sym (low w h)))
     (λ h. le-leb 32768 w h ∙ ap (λ (z : ℤ). ltZ z (pos 0)) (sym (high w h)))
 
 size-low : (w : ℕ) → w < 32768 → sizeOf w ≡ w
@@ -56,9 +58,12 @@ size-high w h = simp (le-leb 32768 w h)
 -- the size of a word
 pub size-is : (w : ℕ) → w < 65536 → sizeOf w ≡ natAbs (toZ w16 w)
 size-is w l =
-    half w (λ h. size-low w h ∙ ap natAbs (sym (low w h)))
+    split w 32768 (λ h. size-low w h ∙ ap natAbs (sym (low w h)))
     (λ h. let e : 65536 - w ≡ suc (65536 - suc w) = omega arith in size-high w h ∙ e ∙ ap natAbs (sym (high w h)))
 
--- it is at most 32,768
+-- it is at most 32,768, and so is the integer's
 pub size-most : (w : ℕ) → sizeOf w ≤ 32768
-size-most w = half w (λ h. omega (arith, size-low w h)) (λ h. omega (arith, size-high w h))
+size-most w = split w 32768 (λ h. omega (arith, size-low w h)) (λ h. omega (arith, size-high w h))
+
+pub integer-most : (w : ℕ) → natAbs (toZ w16 w) ≤ 32768
+integer-most w = split w 32768 (λ h. omega (arith, ap natAbs (low w h))) (λ h. omega (arith, ap natAbs (high w h)))

@@ -1,13 +1,13 @@
 -- `average::divided` meets its contract: either difference over n, which is at most 32,768.
 -- Assumes nothing.
-use Prim.Native.Nat.{ℕ}
+use Prim.Native.Nat.{ℕ, _-_}
 use borrow.Author.Needs.{needs}
 use native.Mathlib.Omega.{arith}
 use mathlib.Core.Path.{ap, _∙_, sym}
 use lib.IntN.{pos, negℤ}
 use mir.Syntax.{w16}
 use mir.Val.{ofZ}
-use Rattle.average.proofs.Integers.{at-most, word-up, word-down, minus}
+use Rattle.average.proofs.Integers.{over, word-up, word-down, minus}
 use Rattle.average.proofs.divided.Statement.{statement}
 use Rattle.average.proofs.divided.Tie as tie
 
@@ -16,7 +16,7 @@ div-m c = search needs
 
 cast-result : tie.Need-cast-result
 cast-result c =
-    let a = c .before .before .before in omega (arith, at-most (a .args .s .ins) (a .args .s .outs) (a .args .n) (a .pre .1))
+    let a = c .before .before .before in omega (arith, over (a .args .s .ins - a .args .s .outs) (a .args .n) (omega (arith, a .pre .1)))
 
 sub-m : tie.Need-sub-m
 sub-m c = search needs
@@ -26,7 +26,7 @@ div-m-2 c = search needs
 
 sub-result : tie.Need-sub-result
 sub-result c =
-    let a = c .before .before .before .before in omega (arith, at-most (a .args .s .outs) (a .args .s .ins) (a .args .n) (a .pre .2))
+    let a = c .before .before .before .before in omega (arith, over (a .args .s .outs - a .args .s .ins) (a .args .n) (omega (arith, a .pre .2)))
 
 cast-result-2 : tie.Need-cast-result-2
 cast-result-2 c = search needs
