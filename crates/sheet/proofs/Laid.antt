@@ -106,7 +106,7 @@ pub rows-length : (es : List Entry) (offset : ℕ) → length (rowsOf offset es)
 rows-length [] offset = refl
 rows-length (e ∷ es) offset = omega (arith, rows-length es (offset + length (e .body)))
 
-few-listed : (tag : ℕ) (bs : Choice) → length (listed tag bs) ≤ length bs
+pub few-listed : (tag : ℕ) (bs : Choice) → length (listed tag bs) ≤ length bs
 few-listed tag [] = omega arith
 few-listed tag (none ∷ bs) = omega (arith, few-listed (tag + 1) bs)
 few-listed tag (some b ∷ bs) = omega (arith, few-listed (tag + 1) bs)

@@ -98,3 +98,22 @@ module _ (s f : List ℕ) (tag : ℕ) where
 pub answered : (s f : List ℕ) (a b : Bool) → a ≡ isSheet s → b ≡ isSheet f → cond (a && b) 0 9 ≡ blockAnswer s f
 unfolding blockAnswer
 answered s f a b ea eb = rw (ea, eb)
+
+-- ---- a block name has at most 32 bytes, whatever the sheets
+
+part-short : (s : List ℕ) (a e : ℕ) → Inside s a e → length (between s a e) ≤ 32
+part-short s a e i = simp length-take (omega (arith, i .small))
+
+module _ (s f : List ℕ) (tag : ℕ) where
+  by-part : (p : Part) → partOf s f tag ≡ p → length (bytesOf p s f) ≤ 32 → length (blockOf s f tag) ≤ 32
+  by-part p e h = rw (shown s f tag (0, 0) (0, 0) p e .0) at h
+
+  short-name : (b c : Bool) (x y : Found) → isSheet s ≡ b → isSheet f ≡ c → findIn s tag ≡ x → findIn f tag ≡ y → length (blockOf s f tag) ≤ 32
+  short-name false c x y hs hf es ef = by-part (ofFactory 0 0) (bad-service s f tag hs) (omega arith)
+  short-name true false x y hs hf es ef = by-part (ofFactory 0 0) (bad-factory s f tag hs hf) (omega arith)
+  short-name true true (At a e) y hs hf es ef = by-part (ofService a e) (in-service s f tag hs hf a e es) (part-short s a e (found-inside s tag a e hs es))
+  short-name true true Nothing (At a e) hs hf es ef = by-part (ofFactory a e) (in-factory s f tag hs hf a e es ef) (part-short f a e (found-inside f tag a e hf ef))
+  short-name true true Nothing Nothing hs hf es ef = by-part (ofFactory 0 0) (in-neither s f tag hs hf es ef) (omega arith)
+
+  pub block-short : length (blockOf s f tag) ≤ 32
+  block-short = short-name (isSheet s) (isSheet f) (findIn s tag) (findIn f tag) refl refl refl refl
