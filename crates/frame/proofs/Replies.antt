@@ -22,7 +22,7 @@ use Rattle.frame.specs.Transactions.{readBytes, withPec, wordBody, block
 
 pub reply-length : (request body : List ℕ) → length (replyOf request body) ≡ length body + 1
 unfolding replyOf
-reply-length request body = length-append body (pecOf (request ++ body) ∷ [])
+reply-length request body = simp length-append
 
 -- ---- every reply is right
 

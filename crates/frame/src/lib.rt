@@ -101,9 +101,11 @@ pub fn put_message(room: &mut [u8], at: usize, address: u8, command: u8, word: u
     ensures length { λ r. ⌜ r ≡ at + length (messageOf address command word) ⌝ }
     ensures memory { λ r. ⌜ now (room .exit) ≡ sets (now (room .entry)) at (messageOf address command word) ⌝ }
 {
+    let low = words::low(word);
+    let high = words::high(word);
     room[at] = address;
     room[at + 1] = command;
-    room[at + 2] = words::low(word);
-    room[at + 3] = words::high(word);
+    room[at + 2] = low;
+    room[at + 3] = high;
     at + 4
 }

@@ -9,6 +9,12 @@ use lib.ListN.{length-set}
 use Rattle.frame.proofs.put_message.Statement.{statement}
 use Rattle.frame.proofs.put_message.Tie as tie
 
+low-requires : tie.Need-low-requires
+low-requires c κs = search needs
+
+high-requires : tie.Need-high-requires
+high-requires c κs = search needs
+
 slice-write-room : tie.Need-slice-write-room
 slice-write-room c = search needs
 
@@ -18,17 +24,11 @@ add-room c = search needs
 slice-write-room-2 : tie.Need-slice-write-room-2
 slice-write-room-2 c = simp length-set (omega arith)
 
-low-requires : tie.Need-low-requires
-low-requires c κs = search needs
-
 add-room-2 : tie.Need-add-room-2
 add-room-2 c = search needs
 
 slice-write-room-3 : tie.Need-slice-write-room-3
 slice-write-room-3 c = simp length-set (omega arith)
-
-high-requires : tie.Need-high-requires
-high-requires c κs = search needs
 
 add-room-3 : tie.Need-add-room-3
 add-room-3 c = search needs
@@ -53,13 +53,13 @@ pub put-message-spec : {M : Type 1} → statement M
 put-message-spec =
     tie.close
     (tie.spec
+    low-requires
+    high-requires
     slice-write-room
     add-room
     slice-write-room-2
-    low-requires
     add-room-2
     slice-write-room-3
-    high-requires
     add-room-3
     slice-write-room-4
     add-result
