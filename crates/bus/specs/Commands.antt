@@ -13,8 +13,8 @@ from first last command = leb first command && leb command last
 -- read and write: 00 to 04; read only: 05 to 1C and blocks 20 to 23; optional, not built: 2F, 3C to 3F; all others are reserved
 unfoldable pub kindOf : ℕ → Kind
 kindOf command =
-    cond (from 0 4 command) ReadWrite
-    (cond (from 5 28 command) ReadOnly
-    (cond (from 32 35 command) Block
-    (cond (eqb command 47 || from 60 63 command) Optional
+    cond (from 0x00 0x04 command) ReadWrite
+    (cond (from 0x05 0x1C command) ReadOnly
+    (cond (from 0x20 0x23 command) Block
+    (cond (eqb command 0x2F || from 0x3C 0x3F command) Optional
     Reserved)))

@@ -1,7 +1,7 @@
--- Document 01, Answer numbers and Transactions: what every byte string is answered.
+-- Document 01, Answer numbers and Transactions: what every byte string is answered, the reply, and the state left.
 -- Assumes nothing.
-use Prim.Native.Nat.{ℕ, _/_, _%_}
-use mathlib.Core.Bool.{Bool, true, false, cond, not, _&&_}
+use Prim.Native.Nat.{ℕ, _/_, _%_, _^_}
+use mathlib.Core.Bool.{Bool, cond, not, _&&_, _||_}
 use mathlib.Core.List.{List, []}
 use lib.Dec.{ltb, eqb}
 use lib.ListN.{length}
@@ -20,19 +20,21 @@ use Rattle.pack.specs.declared.State.{State}
 use Rattle.pack.specs.declared.Timers.{Timers}
 use Rattle.sheet.specs.Block.{goodSheets, blockOf}
 
--- bit k of a word, where p is 2 ^ k
-abbrev pub bit : ℕ → ℕ → Bool
-bit p word = eqb (word / p % 2) 1
+-- ---- the answer
 
--- 6: reserved command; 7: optional command not built; 9: block read, a sheet is bad; 10: AtRateTimeToFull in power mode
+-- 10: AtRateTimeToFull in power mode
+abbrev pub wordAnswer : ℕ → Bool → ℕ
+wordAnswer command power = cond (eqb command 0x05 && power) 10 0
+
+-- a read, by its command's row. 6: reserved command; 7: optional command not built; 9: block read, a sheet is bad
 abbrev pub readAnswer : Kind → Bool → Bool → ℕ → ℕ
 readAnswer Reserved good power command = 6
 readAnswer Optional good power command = 7
 readAnswer Block good power command = cond good 0 9
-readAnswer ReadOnly good power command = cond (eqb command 5 && power) 10 0
+readAnswer ReadOnly good power command = wordAnswer command power
 readAnswer ReadWrite good power command = 0
 
--- 6: reserved command; 7: optional command not built; 8: write to a read-only command
+-- a write, by its command's row. 6: reserved command; 7: optional command not built; 8: write to a read-only command
 abbrev pub writeAnswer : Kind → ℕ
 writeAnswer Reserved = 6
 writeAnswer Optional = 7
@@ -40,20 +42,26 @@ writeAnswer Block = 8
 writeAnswer ReadOnly = 8
 writeAnswer ReadWrite = 0
 
--- the answer to a request, on a sound state with room enough
+-- what a request is answered; 3, 4 and 5 come with it
 abbrev pub requestAnswer : Request → Bool → Bool → ℕ
 requestAnswer (Refused answer) good power = answer
 requestAnswer (Read command) good power = readAnswer (kindOf command) good power command
 requestAnswer (Write command word checked) good power = writeAnswer (kindOf command)
 
--- 1: state isn't sound; 2: lent reply room under 34 bytes; then what the request is answered: the lowest number that holds
+-- 1: state isn't sound; 2: lent reply room under 34 bytes; then the request's: so the lowest number above 0 whose condition holds
 unfoldable pub answerOf : State → Bool → Request → ℕ → ℕ
 answerOf s good request room =
     cond (not (soundOf s)) 1
     (cond (ltb room 34) 2
     (requestAnswer request good (s .pack .host .CapacityMode)))
 
--- the error code left, by the answer
+-- answers 0 and 10 are served; every other is a refusal
+abbrev pub served : ℕ → Bool
+served answer = eqb answer 0 || eqb answer 10
+
+-- ---- the state left
+
+-- error code left, by the answer; after 1, 2 and 3 as it was
 unfoldable pub codeAfter : ℕ → ℕ → ℕ
 codeAfter answer before =
     cond (eqb answer 0) 0
@@ -66,26 +74,30 @@ codeAfter answer before =
     (cond (eqb answer 10) 5
     before)))))))
 
--- 00, 01, 02 and 04 keep the written word; of 03 only bits 13, 14 and 15 take effect
-abbrev pub hostWritten : Host → ℕ → ℕ → Host
+-- bit k of a word is set
+abbrev pub bitSet : ℕ → ℕ → Bool
+bitSet k word = eqb (word / 2 ^ k % 2) 1
+
+-- 00, 01, 02 and 04 keep the written word; of 03 only bits 13 ALARM_MODE, 14 CHARGER_MODE, 15 CAPACITY_MODE take effect
+unfoldable pub hostWritten : Host → ℕ → ℕ → Host
 hostWritten h command word =
     record {
-      ManufacturerAccess = cond (eqb command 0) word (h .ManufacturerAccess);
-      RemainingCapacityAlarm = cond (eqb command 1) word (h .RemainingCapacityAlarm);
-      RemainingTimeAlarm = cond (eqb command 2) word (h .RemainingTimeAlarm);
-      AtRate = cond (eqb command 4) word (h .AtRate);
-      AlarmMode = cond (eqb command 3) (bit 8192 word) (h .AlarmMode);
-      ChargerMode = cond (eqb command 3) (bit 16384 word) (h .ChargerMode);
-      CapacityMode = cond (eqb command 3) (bit 32768 word) (h .CapacityMode);
+      ManufacturerAccess = cond (eqb command 0x00) word (h .ManufacturerAccess);
+      RemainingCapacityAlarm = cond (eqb command 0x01) word (h .RemainingCapacityAlarm);
+      RemainingTimeAlarm = cond (eqb command 0x02) word (h .RemainingTimeAlarm);
+      AtRate = cond (eqb command 0x04) word (h .AtRate);
+      AlarmMode = cond (eqb command 0x03) (bitSet 13 word) (h .AlarmMode);
+      ChargerMode = cond (eqb command 0x03) (bitSet 14 word) (h .ChargerMode);
+      CapacityMode = cond (eqb command 0x03) (bitSet 15 word) (h .CapacityMode);
     }
 
 -- a write to 03 with bit 13 set starts a 60,000 ms hold, with bit 13 clear ends it; while bit 14 is set the charger timer stands at 0
-abbrev pub timersWritten : Timers → ℕ → ℕ → Timers
+unfoldable pub timersWritten : Timers → ℕ → ℕ → Timers
 timersWritten t command word =
     record {
-      hold = cond (eqb command 3) (cond (bit 8192 word) 60000 0) (t .hold);
+      hold = cond (eqb command 0x03) (cond (bitSet 13 word) 60000 0) (t .hold);
       alarm = t .alarm;
-      charger = cond (eqb command 3 && bit 16384 word) 0 (t .charger);
+      charger = cond (eqb command 0x03) (cond (bitSet 14 word) 0 (t .charger)) (t .charger);
     }
 
 -- the pack after a served write
@@ -104,55 +116,52 @@ written p command word =
 abbrev pub packAfter : Pack → Request → ℕ → Pack
 packAfter p (Refused n) answer = p
 packAfter p (Read command) answer = p
-packAfter p (Write command word checked) answer = cond (eqb answer 0) (written p command word) p
+packAfter p (Write command word checked) answer = cond (served answer) (written p command word) p
 
--- answers 0 and 10 are served
-abbrev pub served : ℕ → Bool
-served answer = cond (eqb answer 0) true (eqb answer 10)
+-- ---- the reply
 
--- a read's body: a block for 20 to 23, else a word
-abbrev pub readBody : Kind → State → List ℕ → ℕ → List ℕ
-readBody Block s name command = blockBody name
-readBody ReadWrite s name command = wordBody (wordOf s command)
-readBody ReadOnly s name command = wordBody (wordOf s command)
-readBody Optional s name command = []
-readBody Reserved s name command = []
+-- what a read shows: a block for 20 to 23, else a word
+abbrev pub readBody : Kind → State → List ℕ → List ℕ → ℕ → List ℕ
+readBody Block s service factory command = blockBody (blockOf service factory command)
+readBody ReadOnly s service factory command = wordBody (wordOf s command)
+readBody ReadWrite s service factory command = wordBody (wordOf s command)
+readBody Optional s service factory command = []
+readBody Reserved s service factory command = []
 
--- a served read is replied to
+-- only a served read has reply bytes
 abbrev pub replyTo : State → List ℕ → List ℕ → List ℕ → Request → ℕ → List ℕ
 replyTo s service factory bytes (Refused n) answer = []
 replyTo s service factory bytes (Read command) answer =
-    cond (served answer) (replyOf bytes (readBody (kindOf command) s (blockOf service factory command) command)) []
+    cond (served answer) (replyOf bytes (readBody (kindOf command) s service factory command)) []
 replyTo s service factory bytes (Write command word checked) answer = []
 
 -- ---- the entry
 
--- the request that the driver's bytes and mark are to the pack, at address 0x16
-abbrev pub asked : Bool → List ℕ → Request
-asked read bytes = requestOf 22 read bytes
+-- the answer, the state with the error code that it leaves, and the number of reply bytes
+abbrev pub outcome : State → ℕ → Pack → ℕ → Transacted
+outcome s answer pack length =
+    record { answer = answer; state = record { error = codeAfter answer (s .error); pack = pack }; length = length }
 
--- the answer to a transaction
-abbrev pub transactAnswer : State → List ℕ → List ℕ → Bool → List ℕ → ℕ → ℕ
+-- the request that the driver's bytes and mark are, at the write byte 0x16
+abbrev pub asked : Bool → List ℕ → Request
+asked read bytes = requestOf 0x16 read bytes
+
+-- the answer to the driver's bytes and mark, for a state, the service and the factory sheet, and the length of the lent reply room
+unfoldable pub transactAnswer : State → List ℕ → List ℕ → Bool → List ℕ → ℕ → ℕ
 transactAnswer s service factory read bytes room = answerOf s (goodSheets service factory) (asked read bytes) room
 
--- the reply to a transaction; none for a write or a refusal
-unfoldable pub replyFor : State → List ℕ → List ℕ → Bool → List ℕ → ℕ → List ℕ
-replyFor s service factory read bytes room =
+-- the reply to them
+unfoldable pub transactReply : State → List ℕ → List ℕ → Bool → List ℕ → ℕ → List ℕ
+transactReply s service factory read bytes room =
     replyTo s service factory bytes (asked read bytes) (transactAnswer s service factory read bytes room)
 
 -- answer, state and number of reply bytes
 unfoldable pub transactOf : State → List ℕ → List ℕ → Bool → List ℕ → ℕ → Transacted
 transactOf s service factory read bytes room =
-    record {
-      answer = transactAnswer s service factory read bytes room;
-      state =
-          record {
-            error = codeAfter (transactAnswer s service factory read bytes room) (s .error);
-            pack = packAfter (s .pack) (asked read bytes) (transactAnswer s service factory read bytes room);
-          };
-      length = length (replyFor s service factory read bytes room);
-    }
+    outcome s (transactAnswer s service factory read bytes room)
+    (packAfter (s .pack) (asked read bytes) (transactAnswer s service factory read bytes room))
+    (length (transactReply s service factory read bytes room))
 
--- the reply at the front of the room, the rest stays; a refusal writes nothing
+-- the lent reply room: the reply's bytes at the front, the rest stays
 unfoldable pub roomAfter : State → List ℕ → List ℕ → Bool → List ℕ → List ℕ → List ℕ
-roomAfter s service factory read bytes room = placed (replyFor s service factory read bytes (length room)) room
+roomAfter s service factory read bytes room = placed (transactReply s service factory read bytes (length room)) room
