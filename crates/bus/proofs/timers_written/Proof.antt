@@ -1,0 +1,24 @@
+-- `bus::timers_written` meets its contract.
+-- Assumes nothing.
+use borrow.Author.Needs.{needs}
+use borrow.Author.Tests.{eq-eqb, ne-eqb}
+use Rattle.bus.specs.Transact.{timersWritten}
+use Rattle.bus.proofs.timers_written.Statement.{statement}
+use Rattle.bus.proofs.timers_written.Tie as tie
+
+returns : tie.Need-returns
+unfolding timersWritten
+returns c = simp (ne-eqb _ _ (c .if1 .taken))
+
+chosen-requires : tie.Need-chosen-requires
+chosen-requires c κs = search needs
+
+chosen-requires-2 : tie.Need-chosen-requires-2
+chosen-requires-2 c κs = search needs
+
+returns-2 : tie.Need-returns-2
+unfolding timersWritten
+returns-2 c = simp (c .chosen2 .ensures, c .before .chosen .ensures, eq-eqb _ _ (c .before .before .if1 .left))
+
+pub timers-written-spec : {M : Type 1} → statement M
+timers-written-spec = tie.close (tie.spec returns chosen-requires chosen-requires-2 returns-2)

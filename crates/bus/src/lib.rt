@@ -1,0 +1,274 @@
+// Transactions: the table of commands, and the answer to every byte string that the driver gives.
+ghost use mathlib.Core.Path.{_≡_};
+ghost use mathlib.Core.Bool.{true, cond};
+ghost use Prim.Native.Nat.{_≤_};
+ghost use lib.ListN.{length};
+ghost use Rattle.bus.specs.Commands.{kindOf};
+ghost use Rattle.bus.specs.Parts.{blockReply, blockOutcome, readReply, readOutcome, writeOutcome};
+ghost use Rattle.bus.specs.Transact.{wordAnswer, codeAfter, hostWritten, timersWritten, written, outcome, transactOf, roomAfter};
+ghost use Rattle.frame.specs.Transactions.{replyOf, wordBody, placed};
+ghost use Rattle.gauge.specs.Word.{wordOf};
+ghost use Rattle.pack.specs.Sound.{soundOf};
+use frame::Request;
+use pack::Host;
+use pack::Pack;
+use pack::State;
+use pack::Timers;
+
+// A command's row.
+pub enum Kind {
+    ReadWrite,
+    ReadOnly,
+    Block,
+    Optional,
+    Reserved,
+}
+
+// What a transaction gives back: its answer, the state left, the number of reply bytes.
+pub struct Transacted {
+    pub answer: u8,
+    pub state: State,
+    pub length: usize,
+}
+
+// The rows of 00 to 3F, by number: 0 read and write, 1 read only, 2 block, 3 optional, 4 reserved.
+const KINDS: [u8; 64] = *b"\x00\x00\x00\x00\x00\x01\x01\x01\x01\x01\x01\x01\x01\x01\x01\x01\
+    \x01\x01\x01\x01\x01\x01\x01\x01\x01\x01\x01\x01\x01\x04\x04\x04\
+    \x02\x02\x02\x02\x04\x04\x04\x04\x04\x04\x04\x04\x04\x04\x04\x03\
+    \x04\x04\x04\x04\x04\x04\x04\x04\x04\x04\x04\x04\x03\x03\x03\x03";
+
+// 40 to FF are reserved.
+fn row(command: u8) -> Kind
+    ensures { λ r. ⌜ r ≡ kindOf command ⌝ }
+{
+    if 0x3F < command {
+        return Kind::Reserved;
+    }
+    match KINDS[command as usize] {
+        0 => Kind::ReadWrite,
+        1 => Kind::ReadOnly,
+        2 => Kind::Block,
+        3 => Kind::Optional,
+        _ => Kind::Reserved,
+    }
+}
+
+// The error code left.
+fn code_after(answer: u8, before: u8) -> u8
+    ensures { λ r. ⌜ r ≡ codeAfter answer before ⌝ }
+{
+    match answer {
+        0 => 0,
+        4 => 6,
+        5 => 7,
+        6 => 2,
+        7 => 3,
+        8 => 4,
+        9 => 7,
+        10 => 5,
+        _ => before,
+    }
+}
+
+fn answered(s: State, answer: u8, pack: Pack, length: usize) -> Transacted
+    ensures { λ r. ⌜ r ≡ outcome s answer pack length ⌝ }
+{
+    let error = code_after(answer, s.error);
+    let state = State {
+        error: error,
+        pack: pack,
+    };
+    Transacted {
+        answer: answer,
+        state: state,
+        length: length,
+    }
+}
+
+// A call that changes nothing but the error code.
+fn unchanged(s: State, answer: u8, length: usize) -> Transacted
+    ensures { λ r. ⌜ r ≡ outcome s answer (s .pack) length ⌝ }
+{
+    let pack = s.pack;
+    answered(s, answer, pack, length)
+}
+
+// AtRateTimeToFull has no word in power mode.
+fn word_answer(command: u8, power: bool) -> u8
+    ensures { λ r. ⌜ r ≡ wordAnswer command power ⌝ }
+{
+    if (command == 0x05) & power {
+        return 10;
+    }
+    0
+}
+
+fn serve_word(s: State, answer: u8, command: u8, bytes: &[u8], room: &mut [u8]) -> Transacted
+    requires { ⌜ (soundOf s ≡ true) × (34 ≤ length (now room)) ⌝ }
+    ensures result { λ r. ⌜ r ≡ outcome s answer (s .pack) (length (replyOf (now (bytes .entry)) (wordBody (wordOf s command)))) ⌝ }
+    ensures memory { λ _. ⌜ now (room .exit) ≡ placed (replyOf (now (bytes .entry)) (wordBody (wordOf s command))) (now (room .entry)) ⌝ }
+{
+    let word = gauge::word(s, command);
+    let length = frame::put_word(room, bytes, word);
+    unchanged(s, answer, length)
+}
+
+fn serve_block<'a>(
+    s: State,
+    service: &'a [u8],
+    factory: &'a [u8],
+    command: u8,
+    bytes: &[u8],
+    room: &mut [u8],
+) -> Transacted
+    requires { ⌜ 34 ≤ length (now room) ⌝ }
+    ensures result { λ r. ⌜ r ≡ blockOutcome s (now (service .entry)) (now (factory .entry)) command (now (bytes .entry)) ⌝ }
+    ensures memory { λ _. ⌜ now (room .exit) ≡ placed (blockReply (now (service .entry)) (now (factory .entry)) command (now (bytes .entry))) (now (room .entry)) ⌝ }
+{
+    let answer = sheet::block_answer(service, factory);
+    if answer != 0 {
+        return unchanged(s, answer, 0);
+    }
+    let name = sheet::block(service, factory, command);
+    let length = frame::put_block(room, bytes, name);
+    unchanged(s, 0, length)
+}
+
+fn serve_read<'a>(
+    s: State,
+    service: &'a [u8],
+    factory: &'a [u8],
+    command: u8,
+    bytes: &[u8],
+    room: &mut [u8],
+) -> Transacted
+    requires { ⌜ (soundOf s ≡ true) × (34 ≤ length (now room)) ⌝ }
+    ensures result { λ r. ⌜ r ≡ readOutcome s (now (service .entry)) (now (factory .entry)) command (now (bytes .entry)) ⌝ }
+    ensures memory { λ _. ⌜ now (room .exit) ≡ placed (readReply s (now (service .entry)) (now (factory .entry)) command (now (bytes .entry))) (now (room .entry)) ⌝ }
+{
+    match row(command) {
+        Kind::Reserved => unchanged(s, 6, 0),
+        Kind::Optional => unchanged(s, 7, 0),
+        Kind::Block => serve_block(s, service, factory, command, bytes, room),
+        Kind::ReadOnly => {
+            let answer = word_answer(command, s.pack.host.CapacityMode);
+            serve_word(s, answer, command, bytes, room)
+        }
+        Kind::ReadWrite => serve_word(s, 0, command, bytes, room),
+    }
+}
+
+fn host_written(h: Host, command: u8, word: u16) -> Host
+    ensures { λ r. ⌜ r ≡ hostWritten h command word ⌝ }
+{
+    let mut host = h;
+    match command {
+        0x00 => {
+            host.ManufacturerAccess = word;
+            host
+        }
+        0x01 => {
+            host.RemainingCapacityAlarm = word;
+            host
+        }
+        0x02 => {
+            host.RemainingTimeAlarm = word;
+            host
+        }
+        0x03 => {
+            host.AlarmMode = word / 0x2000 % 2 == 1;
+            host.ChargerMode = word / 0x4000 % 2 == 1;
+            host.CapacityMode = word / 0x8000 % 2 == 1;
+            host
+        }
+        0x04 => {
+            host.AtRate = word;
+            host
+        }
+        _ => host,
+    }
+}
+
+fn chosen(c: bool, yes: u32, no: u32) -> u32
+    ensures { λ r. ⌜ r ≡ cond c yes no ⌝ }
+{
+    if c { yes } else { no }
+}
+
+fn timers_written(t: Timers, command: u8, word: u16) -> Timers
+    ensures { λ r. ⌜ r ≡ timersWritten t command word ⌝ }
+{
+    if command != 0x03 {
+        return t;
+    }
+    let hold = chosen(word / 0x2000 % 2 == 1, 60000, 0);
+    let charger = chosen(word / 0x4000 % 2 == 1, 0, t.charger);
+    Timers {
+        hold: hold,
+        alarm: t.alarm,
+        charger: charger,
+    }
+}
+
+fn pack_written(p: Pack, command: u8, word: u16) -> Pack
+    ensures { λ r. ⌜ r ≡ written p command word ⌝ }
+{
+    let settings = p.settings;
+    let latest = p.latest;
+    let kept = p.kept;
+    let tank = p.tank;
+    let host = host_written(p.host, command, word);
+    let timers = timers_written(p.timers, command, word);
+    Pack {
+        settings: settings,
+        host: host,
+        latest: latest,
+        kept: kept,
+        tank: tank,
+        timers: timers,
+    }
+}
+
+fn serve_write(s: State, command: u8, word: u16) -> Transacted
+    ensures { λ r. ⌜ r ≡ writeOutcome s command word ⌝ }
+{
+    match row(command) {
+        Kind::Reserved => unchanged(s, 6, 0),
+        Kind::Optional => unchanged(s, 7, 0),
+        Kind::Block => unchanged(s, 8, 0),
+        Kind::ReadOnly => unchanged(s, 8, 0),
+        Kind::ReadWrite => {
+            let pack = pack_written(s.pack, command, word);
+            answered(s, 0, pack, 0)
+        }
+    }
+}
+
+// What the driver's bytes and mark are answered; no sheet is looked at unless a block is read.
+pub fn transact<'a>(
+    s: State,
+    service: &'a [u8],
+    factory: &'a [u8],
+    read: bool,
+    bytes: &[u8],
+    room: &mut [u8],
+) -> Transacted
+    ensures result { λ r. ⌜ r ≡ transactOf s (now (service .entry)) (now (factory .entry)) read (now (bytes .entry)) (length (now (room .entry))) ⌝ }
+    ensures memory { λ _. ⌜ now (room .exit) ≡ roomAfter s (now (service .entry)) (now (factory .entry)) read (now (bytes .entry)) (now (room .entry)) ⌝ }
+{
+    if !pack::sound(s) {
+        return unchanged(s, 1, 0);
+    }
+    if room.len() < 34 {
+        return unchanged(s, 2, 0);
+    }
+    match frame::recognise(0x16, read, bytes) {
+        Request::Refused(answer) => unchanged(s, answer, 0),
+        Request::Read(command) => serve_read(s, service, factory, command, bytes, room),
+        Request::Write {
+            command,
+            word,
+            checked: _,
+        } => serve_write(s, command, word),
+    }
+}
