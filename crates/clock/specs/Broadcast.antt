@@ -17,11 +17,11 @@ use Rattle.pack.specs.declared.State.{State}
 use Rattle.pack.specs.declared.Timers.{Timers}
 
 -- alarms go when any of the bits is set, ALARM_MODE is clear and 10,000 ms have passed since the last alarm
-abbrev pub alarmGoes : Pack → Bool
+unfoldable pub alarmGoes : Pack → Bool
 alarmGoes p = anyAlarm p && not (p .host .AlarmMode) && leb 10000 (p .timers .alarm)
 
 -- charger words go each 30,000 ms while CHARGER_MODE is clear
-abbrev pub chargerGoes : Pack → Bool
+unfoldable pub chargerGoes : Pack → Bool
 chargerGoes p = not (p .host .ChargerMode) && leb 30000 (p .timers .charger)
 
 -- AlarmWarning `10 16`, and `12 16` if bit 15, 14 or 12 is set

@@ -1,6 +1,6 @@
 // Samples: charge, kept samples, bit 4, hold, timers and broadcasts.
 ghost use mathlib.Core.Path.{_≡_};
-ghost use mathlib.Core.Bool.{Bool, cond, not, _&&_};
+ghost use mathlib.Core.Bool.{Bool, true, cond, not, _&&_};
 ghost use mathlib.Core.List.{List, _∷_, _++_};
 ghost use Prim.Native.Nat.{_+_, _-_, _*_, _≤_, _<_, min};
 ghost use lib.ListN.{length, take};
@@ -217,18 +217,24 @@ fn send_charger_words(p: Pack, goes: bool, room: &mut [u8], at: usize) -> usize
     frame::put_message(room, next, 18, 21, p.settings.ChargingVoltage)
 }
 
+fn zero_if(goes: bool, timer: u32) -> u32
+    ensures { λ r. ⌜ r ≡ cond goes 0 timer ⌝ }
+{
+    if goes { 0 } else { timer }
+}
+
 fn restarted(p: Pack, alarm: bool, charger: bool) -> Timers
     requires { ⌜ (alarm ≡ alarmGoes p) × (charger ≡ chargerGoes p) ⌝ }
     ensures { λ r. ⌜ r ≡ restartedOf p ⌝ }
 {
-    let mut q = p.timers;
-    if alarm {
-        q.alarm = 0;
+    let t = p.timers;
+    let since_alarm = zero_if(alarm, t.alarm);
+    let since_words = zero_if(charger, t.charger);
+    Timers {
+        hold: t.hold,
+        alarm: since_alarm,
+        charger: since_words,
     }
-    if charger {
-        q.charger = 0;
-    }
-    q
 }
 
 // A sample on a sound state with room enough.
