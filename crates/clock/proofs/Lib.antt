@@ -1,0 +1,3 @@
+pub mod Charge
+pub mod Sending
+pub mod Served

@@ -1,0 +1,16 @@
+use native.Mathlib.Nat.{lt-of-le-of-lt, mul-le-mul-right}
+use borrow.Author.Needs.{needs}
+use borrow.Author.Tests.{lt-ltb, le-ltb, le-leb, lt-leb, eq-eqb, ne-eqb, ltb-true, leb-true}
+use native.Mathlib.Omega.{arith}
+use mathlib.Core.Path.{_≡_, refl, ap, _∙_, sym}
+use Rattle.clock.proofs.flowed.Statement.{statement}
+use Rattle.clock.proofs.flowed.Tie as tie
+
+mul-result : tie.Need-mul-result
+mul-result c = record { fits = lt-of-le-of-lt (mul-le-mul-right (c .args .elapsed) (c .pre)) (omega (arith, c .fits .elapsed .fits)) }
+
+returns : tie.Need-returns
+returns c = search needs
+
+pub flowed-spec : {M : Type 1} → statement M
+flowed-spec = tie.close (tie.spec mul-result returns)

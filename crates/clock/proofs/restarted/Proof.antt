@@ -1,0 +1,20 @@
+use Rattle.clock.specs.Broadcast.{restartedOf}
+use borrow.Author.Needs.{needs}
+use borrow.Author.Tests.{lt-ltb, le-ltb, le-leb, lt-leb, eq-eqb, ne-eqb, ltb-true, leb-true}
+use native.Mathlib.Omega.{arith}
+use mathlib.Core.Path.{_≡_, refl, ap, _∙_, sym}
+use Rattle.clock.proofs.restarted.Statement.{statement}
+use Rattle.clock.proofs.restarted.Tie as tie
+
+zero-if-requires : tie.Need-zero-if-requires
+zero-if-requires c κs = search needs
+
+zero-if-requires-2 : tie.Need-zero-if-requires-2
+zero-if-requires-2 c κs = search needs
+
+returns : tie.Need-returns
+unfolding restartedOf
+returns c = simp (c .zero-if2 .ensures, c .before .zero-if .ensures, c .before .before .before .pre .0, c .before .before .before .pre .1)
+
+pub restarted-spec : {M : Type 1} → statement M
+restarted-spec = tie.close (tie.spec zero-if-requires zero-if-requires-2 returns)

@@ -1,0 +1,22 @@
+use borrow.Author.Needs.{needs}
+use borrow.Author.Tests.{lt-ltb, le-ltb, le-leb, lt-leb, eq-eqb, ne-eqb, ltb-true, leb-true}
+use native.Mathlib.Omega.{arith}
+use mathlib.Core.Path.{_≡_, refl, ap, _∙_, sym}
+use Rattle.clock.proofs.timers_after.Statement.{statement}
+use Rattle.clock.proofs.timers_after.Tie as tie
+
+hold-after-requires : tie.Need-hold-after-requires
+hold-after-requires c κs = search needs
+
+alarm-after-requires : tie.Need-alarm-after-requires
+alarm-after-requires c κs = search needs
+
+charger-after-requires : tie.Need-charger-after-requires
+charger-after-requires c κs = search needs
+
+returns : tie.Need-returns
+returns c = simp (c .charger-after .ensures, c .before .alarm-after .ensures, c .before .before .hold-after .ensures)
+
+pub timers-after-spec : {M : Type 1} → statement M
+timers-after-spec =
+    tie.close (tie.spec hold-after-requires alarm-after-requires charger-after-requires returns)

@@ -1,0 +1,90 @@
+-- Document 01, Clock and broadcasts: what is sent, in order, and what a sample answers.
+-- Assumes nothing.
+use Prim.Native.Nat.{ℕ, _+_}
+use mathlib.Core.Bool.{Bool, cond, not, _&&_}
+use mathlib.Core.List.{List, [], _∷_, _++_}
+use lib.Dec.{ltb, leb}
+use lib.ListN.{length}
+use Rattle.clock.specs.Sample.{movedOf}
+use Rattle.clock.specs.declared.Sampled.{Sampled}
+use Rattle.frame.specs.Broadcasts.{messageOf}
+use Rattle.frame.specs.Transactions.{placed}
+use Rattle.gauge.specs.Status.{anyAlarm, chargerAlarm, alarmWord, chargingCurrent}
+use Rattle.pack.specs.Sound.{soundOf}
+use Rattle.pack.specs.declared.Pack.{Pack}
+use Rattle.pack.specs.declared.Sample.{Sample}
+use Rattle.pack.specs.declared.State.{State}
+use Rattle.pack.specs.declared.Timers.{Timers}
+
+-- alarms go when any of the bits is set, ALARM_MODE is clear and 10,000 ms have passed since the last alarm
+unfoldable pub alarmGoes : Pack → Bool
+alarmGoes p = anyAlarm p && not (p .host .AlarmMode) && leb 10000 (p .timers .alarm)
+
+-- charger words go each 30,000 ms while CHARGER_MODE is clear
+unfoldable pub chargerGoes : Pack → Bool
+chargerGoes p = not (p .host .ChargerMode) && leb 30000 (p .timers .charger)
+
+-- AlarmWarning `10 16`, and `12 16` if bit 15, 14 or 12 is set
+unfoldable pub alarmsOf : Pack → List ℕ
+alarmsOf p = cond (alarmGoes p) (messageOf 16 22 (alarmWord p) ++ cond (chargerAlarm p) (messageOf 18 22 (alarmWord p)) []) []
+
+-- the `12 14` and `12 15` words
+unfoldable pub chargerWordsOf : Pack → List ℕ
+chargerWordsOf p = cond (chargerGoes p) (messageOf 18 20 (chargingCurrent p) ++ messageOf 18 21 (p .settings .ChargingVoltage)) []
+
+-- messages, in order
+abbrev pub broadcastOf : Pack → List ℕ
+broadcastOf p = alarmsOf p ++ chargerWordsOf p
+
+-- how many messages that is
+abbrev pub messagesOf : Pack → ℕ
+messagesOf p = cond (alarmGoes p) (1 + cond (chargerAlarm p) 1 0) 0 + cond (chargerGoes p) 2 0
+
+-- a timer restarts at 0 when its words go
+unfoldable pub restartedOf : Pack → Timers
+restartedOf p =
+    record {
+      hold = p .timers .hold;
+      alarm = cond (alarmGoes p) 0 (p .timers .alarm);
+      charger = cond (chargerGoes p) 0 (p .timers .charger);
+    }
+
+-- the pack after a sample
+unfoldable pub sampledOf : Pack → Sample → Pack
+sampledOf p s =
+    record {
+      settings = movedOf p s .settings;
+      host = movedOf p s .host;
+      latest = movedOf p s .latest;
+      kept = movedOf p s .kept;
+      tank = movedOf p s .tank;
+      timers = restartedOf (movedOf p s);
+    }
+
+-- a refused sample: everything as it was, the other numbers 0
+abbrev pub refusedSample : ℕ → State → Sampled
+refusedSample answer s = record { answer = answer; state = s; length = 0; messages = 0 }
+
+-- a served sample: the error code stays
+abbrev pub servedSample : State → Sample → Sampled
+servedSample s sample =
+    record {
+      answer = 0;
+      state = record { error = s .error; pack = sampledOf (s .pack) sample };
+      length = length (broadcastOf (movedOf (s .pack) sample));
+      messages = messagesOf (movedOf (s .pack) sample);
+    }
+
+-- 1: state isn't sound; 2: broadcast room under 16 bytes; else 0
+unfoldable pub sampleOf : State → Sample → ℕ → Sampled
+sampleOf s sample room =
+    cond (not (soundOf s)) (refusedSample 1 s)
+    (cond (ltb room 16) (refusedSample 2 s)
+    (servedSample s sample))
+
+-- a refusal writes nothing; a broadcast is at the front and the rest of the room stays
+unfoldable pub roomAfter : State → Sample → List ℕ → List ℕ
+roomAfter s sample room =
+    cond (not (soundOf s)) room
+    (cond (ltb (length room) 16) room
+    (placed (broadcastOf (movedOf (s .pack) sample)) room))

@@ -1,0 +1,102 @@
+-- A sample leaves a sound state sound, and the error code as it was.
+-- Assumes nothing.
+use Prim.Native.Nat.{ℕ, _+_, _-_, _≤_, min}
+use mathlib.Core.Bool.{Bool, true, false, cond, not, _&&_}
+use mathlib.Core.List.{List, [], _∷_}
+use mathlib.Core.Path.{_≡_, refl, sym}
+use native.Mathlib.Omega.{arith}
+use borrow.Author.Tests.{eq-eqb, eqb-true, le-ltb, leb-false, not-false}
+use lib.Dec.{eqb, leb, ltb}
+use Rattle.clock.proofs.Charge.{charge-held}
+use Rattle.clock.specs.Broadcast.{alarmGoes, chargerGoes, restartedOf, sampledOf, sampleOf, servedSample, refusedSample}
+use Rattle.clock.specs.Sample.{elapsedOf, movedOf}
+use Rattle.clock.specs.declared.Sampled.{Sampled}
+use Rattle.clock_laws.specs.Run.{runOf}
+use Rattle.pack.proofs.Soundness.{facts, sound-of}
+use Rattle.pack.specs.SetUp.{latestOf}
+use Rattle.pack.specs.Sound.{soundOf}
+use Rattle.pack.specs.declared.Sample.{Sample}
+use Rattle.pack.specs.declared.State.{State}
+
+-- a timer that restarts stays as low as it was
+restarts : (b : Bool) (timer most : ℕ) → timer ≤ most → cond b 0 timer ≤ most
+restarts true timer most h = omega arith
+restarts false timer most h = h
+
+-- one that restarts where it reaches its mark stays below it
+below-mark : (b : Bool) (timer mark : ℕ) → leb mark timer ≡ b → cond b 0 timer ≤ mark - 1
+below-mark true timer mark h = omega arith
+below-mark false timer mark h = omega (arith, leb-false mark timer h)
+
+charger-low : (mode : Bool) (timer : ℕ) → cond (not mode && leb 30000 (cond mode 0 timer)) 0 (cond mode 0 timer) ≤ 29999
+charger-low true timer = omega arith
+charger-low false timer = below-mark (leb 30000 timer) timer 30000 refl
+
+stood : (goes mode : Bool) (timer : ℕ) → mode ≡ true → cond goes 0 (cond mode 0 timer) ≡ 0
+stood true mode timer h = refl
+stood false mode timer h = simp h
+
+-- the bit clears where the hold is 0, and only there
+bit-off : (mode : Bool) (hold : ℕ) → hold ≡ 0 → mode && not (eqb hold 0) ≡ false
+bit-off true hold h = simp (eq-eqb hold 0 h)
+bit-off false hold h = refl
+
+off-bit : (mode : Bool) (hold left : ℕ) → (mode ≡ false → hold ≡ 0) → left ≤ hold → mode && not (eqb left 0) ≡ false → left ≡ 0
+off-bit true hold left c l h = eqb-true left 0 (not-false _ h)
+off-bit false hold left c l h = omega (arith, c refl)
+
+-- an accepted sample leaves a sound state
+pub sampled-sound : (s : State) (x : Sample) → soundOf s ≡ true → soundOf (record { error = s .error; pack = sampledOf (s .pack) x }) ≡ true
+unfolding sampledOf movedOf restartedOf chargerGoes
+sampled-sound s x h =
+    let f = facts s h in
+    let e = elapsedOf (x .counter) (s .pack .latest .counter) in
+    let t = s .pack .timers in
+    sound-of _
+    (record {
+      design = f .design;
+      full = f .full;
+      voltage = f .voltage;
+      charge = charge-held (s .pack .tank .charge) (s .pack .tank .full) (latestOf x .current) e (f .charge);
+      some = omega (arith, f .some);
+      most = omega arith;
+      hold = omega (arith, f .hold);
+      alarm = restarts (alarmGoes (movedOf (s .pack) x)) (min 10000 (t .alarm + e)) 10000 (omega arith);
+      charger = charger-low (s .pack .host .ChargerMode) (min 30000 (t .charger + e));
+      stands = λ m. stood (chargerGoes (movedOf (s .pack) x)) (s .pack .host .ChargerMode) (min 30000 (t .charger + e)) m;
+      error = f .error;
+      ended = λ z. bit-off (s .pack .host .AlarmMode) (t .hold - e) z;
+      clear = λ z. off-bit (s .pack .host .AlarmMode) (t .hold) (t .hold - e) (f .clear) (omega arith) z;
+    })
+
+-- what holds of a refusal and of a served sample holds of every sample
+module _ (P : Sampled → Type 0) (s : State) (x : Sample) (n : ℕ) (refused : (answer : ℕ) → P (refusedSample answer s)) (served : soundOf s ≡ true → P (servedSample s x)) where
+  room-or : (b : Bool) → soundOf s ≡ true → P (cond b (refusedSample 2 s) (servedSample s x))
+  room-or true h = refused 2
+  room-or false h = served h
+
+  sound-or : (b : Bool) → soundOf s ≡ b → P (cond (not b) (refusedSample 1 s) (cond (ltb n 16) (refusedSample 2 s) (servedSample s x)))
+  sound-or true h = room-or (ltb n 16) h
+  sound-or false h = refused 1
+
+  pub outcome : P (sampleOf s x n)
+  unfolding sampleOf
+  outcome = sound-or (soundOf s) refl
+
+-- a sample on a sound state leaves a sound state, refused or not
+pub sample-sound : (s : State) (x : Sample) (n : ℕ) → soundOf s ≡ true → soundOf (sampleOf s x n .state) ≡ true
+sample-sound s x n h = outcome (λ r. soundOf (r .state) ≡ true) s x n (λ answer. h) (sampled-sound s x)
+
+-- the error code stays
+pub error-stays : (s : State) (x : Sample) (n : ℕ) → sampleOf s x n .state .error ≡ s .error
+error-stays s x n = outcome (λ r. r .state .error ≡ s .error) s x n (λ answer. refl) (λ h. refl)
+
+-- a sample on a sound state with room enough is accepted: the step of a run
+pub accepted : (s : State) (x : Sample) (n : ℕ) → soundOf s ≡ true → 16 ≤ n → sampleOf s x n ≡ servedSample s x
+unfolding sampleOf
+accepted s x n h l = simp (h, le-ltb n 16 l)
+
+-- a run leaves a sound state
+pub run-sound : (s : State) (xs : List Sample) → soundOf s ≡ true → soundOf (record { error = s .error; pack = runOf (s .pack) xs }) ≡ true
+run-sound s [] h = h
+run-sound s (x ∷ xs) h = run-sound (record { error = s .error; pack = sampledOf (s .pack) x }) xs (sampled-sound s x h)

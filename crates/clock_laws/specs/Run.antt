@@ -1,0 +1,65 @@
+-- Runs of accepted samples: the pack after them, the time they take, their currents and the charge that flows.
+-- Assumes nothing.
+use Prim.Native.Nat.{ℕ, _+_, _≤_}
+use mathlib.Core.Bool.{Bool, true, false, cond}
+use mathlib.Core.List.{List, [], _∷_, _++_}
+use mathlib.Core.Path.{_≡_}
+use lib.IntN.{ℤ, pos, _+ℤ_, _*ℤ_}
+use lib.ListN.{take}
+use lib.Signed.{ltZ}
+use mir.Syntax.{w16}
+use mir.Val.{toZ}
+use Rattle.clock.specs.Broadcast.{alarmGoes, sampledOf}
+use Rattle.clock.specs.Sample.{elapsedOf, movedOf}
+use Rattle.gauge.specs.Status.{anyAlarm}
+use Rattle.pack.specs.SetUp.{latestOf}
+use Rattle.pack.specs.declared.Kept.{Kept}
+use Rattle.pack.specs.declared.Pack.{Pack}
+use Rattle.pack.specs.declared.Sample.{Sample}
+use Rattle.words.specs.Capacity.{milliampMs}
+
+-- the pack after a run of accepted samples, the oldest first
+abbrev pub runOf : Pack → List Sample → Pack
+runOf p [] = p
+runOf p (x ∷ xs) = runOf (sampledOf p x) xs
+
+-- how long a run takes from a counter reading on: the sum of what elapsed before each of its samples
+abbrev pub totalOf : ℕ → List Sample → ℕ
+totalOf counter [] = 0
+totalOf counter (x ∷ xs) = elapsedOf (x .counter) counter + totalOf (x .counter) xs
+
+-- every current of a run before those that came earlier: the newest first, without end
+abbrev pub currentsOf : List ℕ → List Sample → List ℕ
+currentsOf earlier [] = earlier
+currentsOf earlier (x ∷ xs) = currentsOf (latestOf x .current ∷ earlier) xs
+
+-- the kept samples, the newest first
+abbrev pub samplesOf : Kept → List ℕ
+samplesOf k = take (k .count) (k .currents)
+
+-- an integer held between 0 and most
+abbrev pub heldTo : ℤ → ℤ → ℤ
+heldTo most z = cond (ltZ z (pos 0)) (pos 0) (cond (ltZ most z) most z)
+
+-- the signed current that a sample's word stands for
+abbrev pub currentOf : Sample → ℤ
+currentOf x = toZ w16 (latestOf x .current)
+
+-- the charge after a run: each sample adds current × elapsed, held between 0 and full
+abbrev pub chargeOver : ℕ → ℤ → ℕ → List Sample → ℤ
+chargeOver full charge counter [] = charge
+chargeOver full charge counter (x ∷ xs) =
+    chargeOver full (heldTo (pos (milliampMs full)) (charge +ℤ currentOf x *ℤ pos (elapsedOf (x .counter) counter))) (x .counter) xs
+
+-- an alarm bit stays set with ALARM_MODE clear, and accepted samples come at most 1 s apart
+abbrev pub Alarming : Pack → List Sample → Type 0
+Alarming p [] = Unit {0}
+Alarming p (x ∷ xs) =
+    (anyAlarm (movedOf p x) ≡ true) × (movedOf p x .host .AlarmMode ≡ false) × (elapsedOf (x .counter) (p .latest .counter) ≤ 1000)
+    × Alarming (sampledOf p x) xs
+
+-- an alarm goes at some sample of the run, at most so many milliseconds from its start
+abbrev pub AlarmWithin : ℕ → Pack → List Sample → Type 0
+AlarmWithin most p xs =
+    (before : List Sample) × (x : Sample) × (after : List Sample) × (xs ≡ before ++ x ∷ after)
+    × (alarmGoes (movedOf (runOf p before) x) ≡ true) × (totalOf (p .latest .counter) (before ++ x ∷ []) ≤ most)
