@@ -194,7 +194,6 @@ module _ (s : List ℕ) (f : Facts s) where
   capture-back =
       let rows = rowsFrom s 0 (countIn s) in
       let bodies : bodiesOf rows ≡ drop (2 * countIn s + 1) s = rows-bodies 0 (countIn s) (omega arith) ∙ ap (λ (i : ℕ). drop i s) (sym (place-start s)) in
-      let zero-one : 2 * 0 + 1 ≡ 1 = refl in
       drop-cons s 0 0 (omega (arith, f .table))
       ∙ ap (λ (t : List ℕ). countIn s ∷ t) (sym (rows-table 0 (countIn s) (omega arith)) ∙ ap (λ (b : List ℕ). tableOf rows ++ b) (sym bodies))
       ∙ ap (λ (n : ℕ). n ∷ (tableOf rows ++ bodiesOf rows)) (sym (rows-count s 0 (countIn s)))

@@ -31,7 +31,7 @@ stepAt s row place =
 unfoldable pub bodyAt : List ℕ → ℕ → ℕ → List ℕ
 bodyAt s row place = cond (hasRow s row place) (take (lengthIn s row) (drop place s)) []
 
--- this paper's number for each case of a step
+-- document 01's number for each case of a step
 abbrev pub answerOf : Step → ℕ
 answerOf (Next mark row place) = 0
 answerOf End = 0

@@ -51,9 +51,10 @@ wroteOf marks sizes bodies room =
     (record { answer = 0; length = length (written marks sizes bodies) })
     (record { answer = answerTo marks sizes bodies room; length = 0 })
 
--- the capture at the front, the rest stays; else all stays
+-- bytes at the front of a room; the rest stays
+abbrev pub front : List ℕ → List ℕ → List ℕ
+front bytes room = bytes ++ drop (length bytes) room
+
+-- the capture at the front; else all stays
 unfoldable pub roomAfter : List ℕ → List ℕ → List ℕ → List ℕ → List ℕ
-roomAfter marks sizes bodies room =
-    cond (eqb (answerTo marks sizes bodies room) 0)
-    (written marks sizes bodies ++ drop (length (written marks sizes bodies)) room)
-    room
+roomAfter marks sizes bodies room = cond (eqb (answerTo marks sizes bodies room) 0) (front (written marks sizes bodies) room) room
