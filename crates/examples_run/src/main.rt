@@ -1,11 +1,13 @@
 // Document 01's twelve worked examples, run through the public entries: a line each.
+ghost use Prim.Native.Nat.{_<_};
 use libc::STDOUT_FILENO;
-use pack::Kept;
 use pack::Sample;
 use pack::Setup;
 use pack::State;
 
-fn wide(b: u8) -> u64 {
+fn wide(b: u8) -> u64
+    ensures { λ r. ⌜ r < 256 ⌝ }
+{
     b as u64
 }
 
@@ -39,8 +41,8 @@ fn key_of(label: &[u8]) {
     text(b"\n");
 }
 
-// Remaining 2,000 mAh of 4,000, at 14,800 mV.
-fn half_full() -> State {
+// Remaining 2,000 mAh of 4,000, at 14,800 mV, made on 15 March 2021, with a first current.
+fn half_full(current: i16) -> State {
     let setup = Setup {
         DesignCapacity: 4000,
         full: 4000,
@@ -48,7 +50,7 @@ fn half_full() -> State {
         DesignVoltage: 14800,
         MaxError: 0,
         CycleCount: 0,
-        ManufactureDate: 0,
+        ManufactureDate: 0x526f,
         SerialNumber: 0,
         ChargingCurrent: 0,
         ChargingVoltage: 0,
@@ -57,7 +59,7 @@ fn half_full() -> State {
     };
     let first = Sample {
         voltage: 14800,
-        current: 0,
+        current: current,
         temperature: 0,
         counter: 0,
     };
@@ -65,20 +67,54 @@ fn half_full() -> State {
     started.state
 }
 
-// The word of a command after a write.
-fn after(write: &[u8], read: &[u8]) -> u64 {
-    let none = [0u8; 1];
-    let mut room = [0u8; 34];
-    let wrote = bus::transact(half_full(), &none, &none, false, write, &mut room);
-    bus::transact(wrote.state, &none, &none, true, read, &mut room);
-    word_in(&room)
-}
-
 fn word_in(room: &[u8]) -> u64 {
     if room.len() < 2 {
         return 0;
     }
-    wide(words::low(words::join(room[0], room[1]))) + 256 * wide(words::high(words::join(room[0], room[1])))
+    wide(room[0]) + 256 * wide(room[1])
+}
+
+fn word_of(s: State, read: &[u8]) -> u64 {
+    let none = [0u8; 1];
+    let mut room = [0u8; 34];
+    bus::transact(s, &none, &none, true, read, &mut room);
+    word_in(&room)
+}
+
+// The word of a command after a write.
+fn after(write: &[u8], read: &[u8]) -> u64 {
+    let none = [0u8; 1];
+    let mut room = [0u8; 34];
+    let wrote = bus::transact(half_full(0), &none, &none, false, write, &mut room);
+    word_of(wrote.state, read)
+}
+
+// The date that the pack shows, taken apart as 002 packs it: day, month, year.
+fn date(label: &[u8], word: u64) {
+    text(label);
+    io::print_decimal(STDOUT_FILENO, word % 32);
+    text(b" ");
+    io::print_decimal(STDOUT_FILENO, word / 32 % 16);
+    text(b" ");
+    io::print_decimal(STDOUT_FILENO, word / 512 + 1980);
+    text(b"\n");
+}
+
+// The mean of -5 and 2, as the word that AverageCurrent shows.
+fn mean() -> u64 {
+    let mut room = [0u8; 16];
+    let next = Sample {
+        voltage: 14800,
+        current: 2,
+        temperature: 0,
+        counter: 0,
+    };
+    let sampled = clock::sample(half_full(-5), next, &mut room);
+    word_of(sampled.state, b"\x16\x0b\x17")
+}
+
+fn elapsed() -> u64 {
+    clock::elapsed(4, 4294967290) as u64
 }
 
 fn main() {
@@ -86,9 +122,12 @@ fn main() {
     check_byte(b"2 ", b"\x16\x80\x17\x4d\x00\x01\x00");
     check_byte(b"3 ", b"\x16\x09\x17\xd0\x39");
     check_byte(b"4 ", b"\x16\x02\x0a\x00");
+    date(b"5 ", word_of(half_full(0), b"\x16\x1b\x17"));
     key_of(b"6 ");
     number(b"7 ", after(b"\x16\x04\x00\x80", b"\x16\x06\x17"));
     number(b"8 ", after(b"\x16\x04\x00\x00", b"\x16\x06\x17"));
     number(b"9 ", after(b"\x16\x04\xff\xff", b"\x16\x06\x17"));
     number(b"10 ", after(b"\x16\x03\x00\x80", b"\x16\x0f\x17"));
+    number(b"11 ", elapsed());
+    number(b"12 ", mean());
 }
