@@ -1,0 +1,67 @@
+-- Calls of `transact`, one and many.
+-- Assumes nothing.
+use Prim.Native.Nat.{ℕ, _+_, _/_}
+use mathlib.Core.Bool.{Bool, true, false, cond}
+use mathlib.Core.List.{List, [], _∷_, _++_}
+use mathlib.Core.Logic.{_⊎_}
+use mathlib.Core.Path.{_≡_}
+use lib.Dec.{eqb}
+use Rattle.bus.specs.Transact.{served, bitSet, asked, transactAnswer, transactReply, transactOf}
+use Rattle.bus.specs.declared.Transacted.{Transacted}
+use Rattle.frame.specs.Transactions.{readBytes}
+use Rattle.frame.specs.declared.Request.the-variants.{Write}
+use Rattle.gauge.specs.Word.{wordOf}
+use Rattle.pack.specs.declared.State.{State}
+use Rattle.registers.specs.Registers.{bit}
+
+-- what is given beside the state: both sheets, the driver's mark and bytes, and the length of the lent reply room
+pub record Call : Type 0 where
+  pub service : List ℕ
+  pub factory : List ℕ
+  pub read : Bool
+  pub bytes : List ℕ
+  pub room : ℕ
+
+abbrev pub result : State → Call → Transacted
+result s c = transactOf s (c .service) (c .factory) (c .read) (c .bytes) (c .room)
+
+abbrev pub answer : State → Call → ℕ
+answer s c = transactAnswer s (c .service) (c .factory) (c .read) (c .bytes) (c .room)
+
+abbrev pub reply : State → Call → List ℕ
+reply s c = transactReply s (c .service) (c .factory) (c .read) (c .bytes) (c .room)
+
+-- a reader's exchange is what it sent followed by what it heard
+abbrev pub exchange : State → Call → List ℕ
+exchange s c = c .bytes ++ reply s c
+
+-- the state after calls one after another
+abbrev pub after : State → List Call → State
+after s [] = s
+after s (c ∷ cs) = after (result s c .state) cs
+
+-- a read or a refused call
+abbrev pub Idle : State → Call → Type 0
+Idle s c = (c .read ≡ true) ⊎ (served (answer s c) ≡ false)
+
+-- reads and refused calls only
+abbrev pub AllIdle : State → List Call → Type 0
+AllIdle s [] = Unit {0}
+AllIdle s (c ∷ cs) = Idle s c × AllIdle (result s c .state) cs
+
+-- a call that reads a command, or writes a word to it
+abbrev pub Reads : Call → ℕ → Type 0
+Reads c command = (c .read ≡ true) × (c .bytes ≡ readBytes 0x16 command)
+
+abbrev pub Writes : Call → ℕ → ℕ → Type 0
+Writes c command word = (checked : Bool) × (asked (c .read) (c .bytes) ≡ Write command word checked)
+
+-- no register but the error bits differs: every word but BatteryStatus, and BatteryStatus but for its low four bits
+pub record SameRegisters (s t : State) : Type 0 where
+  pub words : (command : ℕ) → (command ≡ 0x16 → ⊥) → wordOf t command ≡ wordOf s command
+  pub status : wordOf t 0x16 / 16 ≡ wordOf s 0x16 / 16
+
+-- 00, 01, 02 and 04 keep the written word, 03 its bits 13, 14 and 15
+abbrev pub keptWord : ℕ → ℕ → ℕ
+keptWord command word =
+    cond (eqb command 0x03) (bit 13 (bitSet 13 word) + bit 14 (bitSet 14 word) + bit 15 (bitSet 15 word)) word
