@@ -13,7 +13,7 @@ use Rattle.bus.specs.Transact.{readAnswer, served, readBody}
 use Rattle.bus.specs.declared.Kind.{Kind}
 use Rattle.bus.specs.declared.Kind.the-variants.{ReadWrite, ReadOnly, Block, Optional, Reserved}
 use Rattle.bus_laws.proofs.Served.{past-two, reads-asked, read-answer}
-use Rattle.bus_laws.specs.Calls.{Call, answer, reply, exchange, Reads}
+use Rattle.bus_laws.specs.Calls.{Call, answer, reply, exchange, body, Reads, Lengths}
 use Rattle.frame.proofs.Replies.{exchange-right, word-exchange, block-exchange, bytes-joined, word-bytes, block-bytes, reply-bytes, command-misheard}
 use Rattle.frame.specs.Transactions.{readBytes, replyOf}
 use Rattle.frame.specs.declared.Request.the-variants.{Read}
@@ -27,10 +27,6 @@ use Rattle.pec_laws.specs.Places.{Bytes, Apart}
 use Rattle.sheet.proofs.Names.{block-short}
 use Rattle.sheet.specs.Block.{goodSheets, Part, ofService, ofFactory, partOf, bytesOf, blockOf}
 
--- what a served read shows: a block or a word
-abbrev pub body : State → Call → ℕ → List ℕ
-body s c command = readBody (kindOf command) s (c .service) (c .factory) command
-
 -- a served read of a command is replied to with its body and the PEC over request and body
 pub served-reply : (s : State) (c : Call) (command : ℕ) → Reads c command → served (answer s c) ≡ true → reply s c ≡ replyOf (c .bytes) (body s c command)
 served-reply s c command r v =
@@ -43,14 +39,6 @@ served-reply s c command r v =
 
 pub exchange-passes : (s : State) (c : Call) (command : ℕ) → Reads c command → served (answer s c) ≡ true → Right (exchange s c)
 exchange-passes s c command r v = subst (λ (x : List ℕ). Right (c .bytes ++ x)) (sym (served-reply s c command r v)) (exchange-right (c .bytes) (body s c command))
-
--- a block exchange has 5 to 37 bytes, a word exchange 6
-abbrev pub Lengths : Kind → ℕ → Type 0
-Lengths Block n = (5 ≤ n) × (n ≤ 37)
-Lengths ReadWrite n = n ≡ 6
-Lengths ReadOnly n = n ≡ 6
-Lengths Optional n = ⊥
-Lengths Reserved n = ⊥
 
 pub exchange-length : (s : State) (c : Call) (command : ℕ) → Reads c command → served (answer s c) ≡ true → Lengths (kindOf command) (length (exchange s c))
 exchange-length s c command r v =

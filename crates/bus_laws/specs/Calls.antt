@@ -1,12 +1,15 @@
 -- Calls of `transact`, one and many.
 -- Assumes nothing.
-use Prim.Native.Nat.{ℕ, _+_, _/_}
+use Prim.Native.Nat.{ℕ, _+_, _/_, _≤_}
 use mathlib.Core.Bool.{Bool, true, false, cond}
 use mathlib.Core.List.{List, [], _∷_, _++_}
 use mathlib.Core.Logic.{_⊎_}
 use mathlib.Core.Path.{_≡_}
 use lib.Dec.{eqb}
-use Rattle.bus.specs.Transact.{served, bitSet, asked, transactAnswer, transactReply, transactOf}
+use Rattle.bus.specs.Commands.{kindOf}
+use Rattle.bus.specs.Transact.{served, bitSet, readBody, asked, transactAnswer, transactReply, transactOf}
+use Rattle.bus.specs.declared.Kind.{Kind}
+use Rattle.bus.specs.declared.Kind.the-variants.{ReadWrite, ReadOnly, Block, Optional, Reserved}
 use Rattle.bus.specs.declared.Transacted.{Transacted}
 use Rattle.frame.specs.Transactions.{readBytes}
 use Rattle.frame.specs.declared.Request.the-variants.{Write}
@@ -30,6 +33,10 @@ answer s c = transactAnswer s (c .service) (c .factory) (c .read) (c .bytes) (c 
 
 abbrev pub reply : State → Call → List ℕ
 reply s c = transactReply s (c .service) (c .factory) (c .read) (c .bytes) (c .room)
+
+-- what a served read shows: a block or a word
+abbrev pub body : State → Call → ℕ → List ℕ
+body s c command = readBody (kindOf command) s (c .service) (c .factory) command
 
 -- a reader's exchange is what it sent followed by what it heard
 abbrev pub exchange : State → Call → List ℕ
@@ -65,3 +72,11 @@ pub record SameRegisters (s t : State) : Type 0 where
 abbrev pub keptWord : ℕ → ℕ → ℕ
 keptWord command word =
     cond (eqb command 0x03) (bit 13 (bitSet 13 word) + bit 14 (bitSet 14 word) + bit 15 (bitSet 15 word)) word
+
+-- a block exchange has 5 to 37 bytes, a word exchange 6
+abbrev pub Lengths : Kind → ℕ → Type 0
+Lengths Block n = (5 ≤ n) × (n ≤ 37)
+Lengths ReadWrite n = n ≡ 6
+Lengths ReadOnly n = n ≡ 6
+Lengths Optional n = ⊥
+Lengths Reserved n = ⊥
