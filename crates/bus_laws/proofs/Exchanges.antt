@@ -13,11 +13,11 @@ use Rattle.bus.specs.Transact.{readAnswer, served, readBody}
 use Rattle.bus.specs.declared.Kind.{Kind}
 use Rattle.bus.specs.declared.Kind.the-variants.{ReadWrite, ReadOnly, Block, Optional, Reserved}
 use Rattle.bus_laws.proofs.Served.{past-two, reads-asked, read-answer}
-use Rattle.bus_laws.specs.Calls.{Call, answer, reply, exchange, body, Reads, Lengths}
+use Rattle.bus_laws.specs.Calls.{Call, answer, reply, exchange, body, Reads, Lengths, Exchanged}
 use Rattle.frame.proofs.Replies.{exchange-right, word-exchange, block-exchange, bytes-joined, word-bytes, block-bytes, reply-bytes, command-misheard}
 use Rattle.frame.specs.Transactions.{readBytes, replyOf}
 use Rattle.frame.specs.declared.Request.the-variants.{Read}
-use Rattle.gauge.proofs.Range.{Fits, word-below}
+use Rattle.gauge.proofs.Range.{word-below}
 use Rattle.gauge.specs.Word.{wordOf}
 use Rattle.pack.specs.declared.State.{State}
 use Rattle.pec.specs.Messages.{Right, bitsApart}
@@ -75,16 +75,6 @@ name-bytes service factory tag hs hf = go (partOf service factory tag)
     go : (p : Part) → Bytes (bytesOf p service factory)
     go (ofService a e) = bytes-take (e - a) (drop a service) (bytes-drop a service hs)
     go (ofFactory a e) = bytes-take (e - a) (drop a factory) (bytes-drop a factory hf)
-
--- a served read of some command; the struct's fields, the sheets and the command hold what their types let them hold
-pub record Exchanged (s : State) (c : Call) : Type 0 where
-  pub command : ℕ
-  pub reads : Reads c command
-  pub is-served : served (answer s c) ≡ true
-  pub a-byte : command < 256
-  pub fits : Fits (s .pack)
-  pub service : Bytes (c .service)
-  pub factory : Bytes (c .factory)
 
 body-bytes : (s : State) (c : Call) (x : Exchanged s c) (k : Kind) → Bytes (readBody k s (c .service) (c .factory) (x .command))
 body-bytes s c x Block =

@@ -16,7 +16,7 @@ use Rattle.bus.specs.declared.Kind.the-variants.{ReadWrite, ReadOnly, Block, Op
 use Rattle.bus.specs.declared.Transacted.{Transacted}
 use Rattle.bus_laws.proofs.Exchanges.{served-reply}
 use Rattle.bus_laws.proofs.Kept.{all-idle-keep}
-use Rattle.bus_laws.proofs.Served.{past-two, write-answer}
+use Rattle.bus_laws.proofs.Served.{past-two, writes-asked, write-answer}
 use Rattle.bus_laws.specs.Calls.{Call, result, answer, reply, after, AllIdle, Reads, Writes, keptWord}
 use Rattle.frame.proofs.Replies.{word-back}
 use Rattle.frame.specs.Transactions.{replyOf, wordBody}
@@ -87,7 +87,7 @@ module _ (s : State) (w : Call) (cs : List Call) (r : Call) (command word : ℕ)
   pack-kept =
       all-idle-keep (result s w .state) cs idle
       ∙ ap (λ (o : Transacted). o .state .pack)
-      (by-outcome s (w .service) (w .factory) (w .read) (w .bytes) (w .room) (Write command word (writes .0)) (past-two s w taken .0) (past-two s w taken .1) (writes .1))
+      (by-outcome s (w .service) (w .factory) (w .read) (w .bytes) (w .room) (Write command word (writes .1 .0)) (past-two s w taken .0) (past-two s w taken .1) (writes-asked w command word writes))
       ∙ ap (λ (b : Bool). cond b (written (s .pack) command word) (s .pack)) served-row
 
   word-kept : wordOf last command ≡ keptWord command word

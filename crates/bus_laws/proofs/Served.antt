@@ -35,12 +35,16 @@ past-two s c v = go (soundOf s) refl (ltb (c .room) 34) refl
 pub reads-asked : (c : Call) (command : ℕ) → Reads c command → asked (c .read) (c .bytes) ≡ Read command
 reads-asked c command h = read-is 0x16 (c .read) (c .bytes) command .1 h
 
+pub writes-asked : (c : Call) (command word : ℕ) (h : Writes c command word) → asked (c .read) (c .bytes) ≡ Write command word (h .1 .0)
+writes-asked c command word (r, (checked, b)) = write-is 0x16 (c .read) (c .bytes) command word checked .1 (r, b)
+
 pub read-answer : (s : State) (c : Call) (command : ℕ) → soundOf s ≡ true → 34 ≤ c .room → Reads c command
     → answer s c ≡ readAnswer (kindOf command) (goodSheets (c .service) (c .factory)) (s .pack .host .CapacityMode) command
 read-answer s c command e h r = by-answer s (c .service) (c .factory) (c .read) (c .bytes) (c .room) (Read command) e h (reads-asked c command r)
 
 pub write-answer : (s : State) (c : Call) (command word : ℕ) → soundOf s ≡ true → 34 ≤ c .room → Writes c command word → answer s c ≡ writeAnswer (kindOf command)
-write-answer s c command word e h (checked, w) = by-answer s (c .service) (c .factory) (c .read) (c .bytes) (c .room) (Write command word checked) e h w
+write-answer s c command word e h w =
+    by-answer s (c .service) (c .factory) (c .read) (c .bytes) (c .room) (Write command word (w .1 .0)) e h (writes-asked c command word w)
 
 -- ---- a refusal
 

@@ -1,20 +1,22 @@
 -- Calls of `transact`, one and many.
 -- Assumes nothing.
-use Prim.Native.Nat.{ℕ, _+_, _/_, _≤_}
+use Prim.Native.Nat.{ℕ, _+_, _/_, _≤_, _<_}
 use mathlib.Core.Bool.{Bool, true, false, cond}
 use mathlib.Core.List.{List, [], _∷_, _++_}
 use mathlib.Core.Logic.{_⊎_}
 use mathlib.Core.Path.{_≡_}
 use lib.Dec.{eqb}
+use lib.ListN.{length}
 use Rattle.bus.specs.Commands.{kindOf}
-use Rattle.bus.specs.Transact.{served, bitSet, readBody, asked, transactAnswer, transactReply, transactOf}
+use Rattle.bus.specs.Transact.{served, bitSet, readBody, transactAnswer, transactReply, transactOf, roomAfter}
 use Rattle.bus.specs.declared.Kind.{Kind}
 use Rattle.bus.specs.declared.Kind.the-variants.{ReadWrite, ReadOnly, Block, Optional, Reserved}
 use Rattle.bus.specs.declared.Transacted.{Transacted}
-use Rattle.frame.specs.Transactions.{readBytes}
-use Rattle.frame.specs.declared.Request.the-variants.{Write}
+use Rattle.frame.specs.Transactions.{readBytes, WriteBytes}
+use Rattle.gauge.proofs.Range.{Fits}
 use Rattle.gauge.specs.Word.{wordOf}
 use Rattle.pack.specs.declared.State.{State}
+use Rattle.pec_laws.specs.Places.{Bytes}
 use Rattle.registers.specs.Registers.{bit}
 
 -- what is given beside the state: both sheets, the driver's mark and bytes, and the length of the lent reply room
@@ -56,12 +58,13 @@ abbrev pub AllIdle : State → List Call → Type 0
 AllIdle s [] = Unit {0}
 AllIdle s (c ∷ cs) = Idle s c × AllIdle (result s c .state) cs
 
--- a call that reads a command, or writes a word to it
+-- a call that reads a command
 abbrev pub Reads : Call → ℕ → Type 0
 Reads c command = (c .read ≡ true) × (c .bytes ≡ readBytes 0x16 command)
 
+-- a call that writes a word to it, with or without PEC
 abbrev pub Writes : Call → ℕ → ℕ → Type 0
-Writes c command word = (checked : Bool) × (asked (c .read) (c .bytes) ≡ Write command word checked)
+Writes c command word = (c .read ≡ false) × ((checked : Bool) × WriteBytes 0x16 command word checked (c .bytes))
 
 -- no register but the error bits differs: every word but BatteryStatus, and BatteryStatus but for its low four bits
 pub record SameRegisters (s t : State) : Type 0 where
@@ -80,3 +83,18 @@ Lengths ReadWrite n = n ≡ 6
 Lengths ReadOnly n = n ≡ 6
 Lengths Optional n = ⊥
 Lengths Reserved n = ⊥
+
+-- a served read of some command; the struct's fields, the sheets and the command hold what their types let them hold
+pub record Exchanged (s : State) (c : Call) : Type 0 where
+  pub command : ℕ
+  pub reads : Reads c command
+  pub is-served : served (answer s c) ≡ true
+  pub a-byte : command < 256
+  pub fits : Fits (s .pack)
+  pub service : Bytes (c .service)
+  pub factory : Bytes (c .factory)
+
+-- what the contract of `transact` says of its result and of the room's final content
+abbrev pub Allowed : State → List ℕ → List ℕ → Bool → List ℕ → List ℕ → Transacted → List ℕ → Type 0
+Allowed s service factory read bytes room r left =
+    (r ≡ transactOf s service factory read bytes (length room)) × (left ≡ roomAfter s service factory read bytes room)
