@@ -1,22 +1,23 @@
 -- What is written is read back, after any number of reads and refused calls.
 -- Assumes nothing.
-use Prim.Native.Nat.{ℕ, zero, suc, _≤_}
+use Prim.Native.Nat.{ℕ, zero, suc, _+_, _*_, _/_, _%_, _≤_, _<_}
 use mathlib.Core.Bool.{Bool, true, false, cond, _||_, true≢false}
 use mathlib.Core.List.{List}
-use mathlib.Core.Path.{_≡_, refl, sym, ap, _∙_}
+use mathlib.Core.Path.{_≡_, refl, sym, ap, ap₂, _∙_}
 use native.Mathlib.Omega.{arith}
 use borrow.Author.Tests.{le-leb, leb-true}
 use lib.Dec.{leb, eqb}
 use lib.ListN.{getD}
 use Rattle.bus.proofs.Answers.{by-outcome}
 use Rattle.bus.specs.Commands.{from, kindOf}
-use Rattle.bus.specs.Transact.{writeAnswer, served, hostWritten, written, readBody}
+use Rattle.bus.specs.Transact.{readAnswer, writeAnswer, served, bitSet, hostWritten, written, readBody}
 use Rattle.bus.specs.declared.Kind.{Kind}
 use Rattle.bus.specs.declared.Kind.the-variants.{ReadWrite, ReadOnly, Block, Optional, Reserved}
 use Rattle.bus.specs.declared.Transacted.{Transacted}
 use Rattle.bus_laws.proofs.Exchanges.{served-reply}
 use Rattle.bus_laws.proofs.Kept.{all-idle-keep}
-use Rattle.bus_laws.proofs.Served.{past-two, writes-asked, write-answer}
+use Rattle.bus_laws.proofs.Served.{past-two, read-answer, writes-asked, write-answer}
+use Rattle.bus_laws.proofs.Soundness.{sound-stays, all-sound}
 use Rattle.bus_laws.specs.Calls.{Call, result, answer, reply, after, AllIdle, Reads, Writes, keptWord}
 use Rattle.frame.proofs.Replies.{word-back}
 use Rattle.frame.specs.Transactions.{replyOf, wordBody}
@@ -24,6 +25,8 @@ use Rattle.frame.specs.declared.Request.the-variants.{Write}
 use Rattle.gauge.specs.Word.{wordOf}
 use Rattle.pack.specs.declared.Pack.{Pack}
 use Rattle.pack.specs.declared.State.{State}
+use Rattle.registers.specs.Registers.{bit}
+use Rattle.sheet.specs.Block.{goodSheets}
 use Rattle.words.specs.Words.{joined}
 
 -- ---- a served write is one to 00 to 04
@@ -71,9 +74,25 @@ kept p code (suc (suc (suc zero))) word l = refl
 kept p code (suc (suc (suc (suc zero)))) word l = refl
 kept p code (suc (suc (suc (suc (suc n))))) word l = absurd (omega (arith, l))
 
+-- of 03 the bits 13 to 15: the word without its low thirteen bits
+digit : (d weight : ℕ) → d < 2 → cond (eqb d 1) weight 0 ≡ d * weight
+digit zero weight h = omega arith
+digit (suc zero) weight h = omega arith
+digit (suc (suc d)) weight h = absurd (omega (arith, h))
+
+sum : (q r t : ℕ) → q < 8 → r ≡ q / 2 → t ≡ r / 2 → q % 2 * 8192 + r % 2 * 16384 + t % 2 * 32768 ≡ q * 8192
+sum q r t h e f = omega arith
+
+pub three-bits : (word : ℕ) → word < 65536 → keptWord 0x03 word ≡ word / 8192 * 8192
+three-bits word h =
+    let a : bit 13 (bitSet 13 word) ≡ word / 8192 % 2 * 8192 = digit (word / 8192 % 2) 8192 (omega arith) in
+    let b : bit 14 (bitSet 14 word) ≡ word / 16384 % 2 * 16384 = digit (word / 16384 % 2) 16384 (omega arith) in
+    let d : bit 15 (bitSet 15 word) ≡ word / 32768 % 2 * 32768 = digit (word / 32768 % 2) 32768 (omega arith) in
+    ap₂ _+_ (ap₂ _+_ a b) d ∙ sum (word / 8192) (word / 16384) (word / 32768) (omega arith) (omega arith) (omega arith)
+
 module _ (s : State) (w : Call) (cs : List Call) (r : Call) (command word : ℕ)
     (writes : Writes w command word) (taken : served (answer s w) ≡ true) (idle : AllIdle (result s w .state) cs)
-    (reads : Reads r command) (given : served (answer (after (result s w .state) cs) r) ≡ true) where
+    (reads : Reads r command) (room : 34 ≤ r .room) where
   abbrev pub last : State
   last = after (result s w .state) cs
 
@@ -82,6 +101,12 @@ module _ (s : State) (w : Call) (cs : List Call) (r : Call) (command word : ℕ)
 
   row : kindOf command ≡ ReadWrite
   row = writable (kindOf command) served-row
+
+  given : served (answer last r) ≡ true
+  given =
+      ap (λ (n : ℕ). served n)
+      (read-answer last r command (all-sound (result s w .state) cs (sound-stays s w (past-two s w taken .0))) room reads
+      ∙ ap (λ (k : Kind). readAnswer k (goodSheets (r .service) (r .factory)) (last .pack .host .CapacityMode) command) row)
 
   pack-kept : last .pack ≡ written (s .pack) command word
   pack-kept =
@@ -94,7 +119,7 @@ module _ (s : State) (w : Call) (cs : List Call) (r : Call) (command word : ℕ)
   word-kept =
       ap (λ (p : Pack). wordOf (record { error = last .error; pack = p }) command) pack-kept ∙ kept (s .pack) (last .error) command word (first-five command row)
 
-  -- a served write, any number of reads and refused calls, and a served read of that command: it is replied to with the kept word
+  -- a served write, any number of reads and refused calls, and a read of that command: it is served, and shows the kept word
   pub read-back : reply last r ≡ replyOf (r .bytes) (wordBody (keptWord command word))
   read-back =
       served-reply last r command reads given

@@ -2,11 +2,12 @@
 -- Assumes nothing.
 use Prim.Native.Nat.{ℕ, _≤_}
 use mathlib.Core.Bool.{Bool, true, false, cond, true≢false}
+use mathlib.Core.List.{List, [], _∷_}
 use mathlib.Core.Path.{_≡_, refl, sym}
 use native.Mathlib.Omega.{arith}
 use lib.Dec.{eqb}
 use Rattle.bus.specs.Transact.{codeAfter, bitSet, hostWritten, timersWritten, written, served, packAfter, asked, transactOf}
-use Rattle.bus_laws.specs.Calls.{Call, result, answer}
+use Rattle.bus_laws.specs.Calls.{Call, result, answer, after}
 use Rattle.frame.specs.declared.Request.{Request}
 use Rattle.frame.specs.declared.Request.the-variants.{Refused, Read, Write}
 use Rattle.pack.proofs.Soundness.{facts, sound-of, with-error}
@@ -100,3 +101,8 @@ sound-stays s c h = go (asked (c .read) (c .bytes))
     go (Refused n) = with-error s code small h
     go (Read command) = with-error s code small h
     go (Write command word checked) = by-write command word (served (answer s c))
+
+-- any number of calls
+pub all-sound : (s : State) (cs : List Call) → soundOf s ≡ true → soundOf (after s cs) ≡ true
+all-sound s [] h = h
+all-sound s (c ∷ cs) h = all-sound (result s c .state) cs (sound-stays s c h)
