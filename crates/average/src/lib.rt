@@ -14,6 +14,7 @@ struct Net {
     outs: u32,
 }
 
+// A word joins the sum.
 fn added(s: Net, w: u16) -> Net
     requires { ⌜ (s .ins ≤ 32768 * 60) × (s .outs ≤ 32768 * 60) ⌝ }
     ensures is { λ r. ⌜ subℕ (r .ins) (r .outs) ≡ subℕ (s .ins) (s .outs) +ℤ toZ w16 w ⌝ }
@@ -33,6 +34,7 @@ fn added(s: Net, w: u16) -> Net
     }
 }
 
+// The sum of the first words.
 fn summed(currents: [u16; 60], count: usize) -> Net
     requires { ⌜ count ≤ 60 ⌝ }
     ensures is { λ s. ⌜ subℕ (s .ins) (s .outs) ≡ sumOf currents count ⌝ }
@@ -62,6 +64,7 @@ fn divided(s: Net, n: u32) -> u16
     }
 }
 
+// AverageCurrent, of the 1 to 60 samples that a sound state keeps.
 pub fn average(k: Kept) -> u16
     requires { ⌜ (1 ≤ k .count) × (k .count ≤ 60) ⌝ }
     ensures { λ r. ⌜ r ≡ averageOf k ⌝ }

@@ -2,11 +2,12 @@
 -- Assumes nothing.
 use Prim.Native.Nat.{ℕ, _+_, _*_, _/_, _%_, _^_, _≤_, _<_}
 use mathlib.Core.Bool.{Bool, true, false, cond}
-use mathlib.Core.Path.{_≡_, refl}
+use mathlib.Core.Path.{_≡_}
 use native.Mathlib.Omega.{arith}
 use Rattle.gauge.specs.Status.{chargeFull, overTemp, overCharged, terminateCharge, terminateDischarge, remainingCapacityLow, remainingTimeLow, discharging, statusBits, batteryStatus}
 use Rattle.pack.specs.declared.Pack.{Pack}
 use Rattle.registers.specs.Registers.{bit}
+use Rattle.words.specs.Words.{highOf}
 
 -- bit k of a word
 abbrev pub bitOf : ℕ → ℕ → ℕ
@@ -43,9 +44,9 @@ weighed k false = omega arith
 -- the status word as digits by weight, each at most 1
 record Digits (p : Pack) : Type 0 where
   is : statusBits p ≡
-    16384 * digit (terminateCharge p) + 4096 * digit (overTemp p) + 2048 * digit (terminateDischarge p)
-    + 512 * digit (remainingCapacityLow p) + 256 * digit (remainingTimeLow p)
-    + 128 + 64 * digit (discharging p) + 32 * digit (chargeFull p) + 16 * digit (p .tank .FullyDischarged)
+      16384 * digit (terminateCharge p) + 4096 * digit (overTemp p) + 2048 * digit (terminateDischarge p)
+      + 512 * digit (remainingCapacityLow p) + 256 * digit (remainingTimeLow p)
+      + 128 + 64 * digit (discharging p) + 32 * digit (chargeFull p) + 16 * digit (p .tank .FullyDischarged)
   d14 : digit (terminateCharge p) ≤ 1
   d12 : digit (overTemp p) ≤ 1
   d11 : digit (terminateDischarge p) ≤ 1
@@ -77,6 +78,13 @@ status-most p = let d = digits p in omega arith
 -- the error code changes nothing above it
 pub above-code : (p : Pack) (code : ℕ) → code < 16 → batteryStatus p code / 16 ≡ statusBits p / 16
 above-code p code h = let d = digits p in omega arith
+
+-- the high byte holds the alarm bits
+pub high-byte : (p : Pack) (code : ℕ) → code < 16 →
+    highOf (batteryStatus p code) ≡
+    64 * digit (terminateCharge p) + 16 * digit (overTemp p) + 8 * digit (terminateDischarge p) + 2 * digit (remainingCapacityLow p)
+    + 1 * digit (remainingTimeLow p)
+high-byte p code h = let d = digits p in omega arith
 
 -- each bit of 16 is the flag that document 01 names for it
 pub placed : (p : Pack) (code : ℕ) → code < 16 → Placed p code (batteryStatus p code)

@@ -1,3 +1,4 @@
+pub mod Alarms
 pub mod Bits
 pub mod Range
 pub mod Soundness

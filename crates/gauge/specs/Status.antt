@@ -3,12 +3,16 @@
 use Prim.Native.Nat.{ℕ, _+_}
 use mathlib.Core.Bool.{Bool, true, false, cond, not, _&&_, _||_}
 use lib.Dec.{ltb, eqb}
-use Rattle.registers.specs.Registers.{bit, remainingCapacity, averageTimeToEmpty}
 use Rattle.pack.specs.declared.Pack.{Pack}
+use Rattle.registers.specs.Registers.{bit, remainingCapacity, averageTimeToEmpty}
 use Rattle.words.specs.Capacity.{milliampMs}
 use Rattle.words.specs.Words.{above, below}
 
--- charge full
+-- 15 OVER_CHARGED: 0 (house)
+abbrev pub overCharged : Pack → Bool
+overCharged p = false
+
+-- 5 FULLY_CHARGED: charge full
 abbrev pub chargeFull : Pack → Bool
 chargeFull p = eqb (p .tank .charge) (milliampMs (p .tank .full))
 
@@ -24,23 +28,19 @@ terminateCharge p = above (p .latest .current) && (chargeFull p || overTemp p)
 abbrev pub terminateDischarge : Pack → Bool
 terminateDischarge p = below (p .latest .current) && ltb (p .latest .voltage) (p .settings .DischargeLimit)
 
--- 9: 01 isn't 0 and 0F is below it
+-- 9 REMAINING_CAPACITY: 01 isn't 0 and 0F is below it
 abbrev pub remainingCapacityLow : Pack → Bool
 remainingCapacityLow p = not (eqb (p .host .RemainingCapacityAlarm) 0) && ltb (remainingCapacity p) (p .host .RemainingCapacityAlarm)
 
--- 8: 02 isn't 0 and 12 is below it
+-- 8 REMAINING_TIME: 02 isn't 0 and 12 is below it
 abbrev pub remainingTimeLow : Pack → Bool
 remainingTimeLow p = not (eqb (p .host .RemainingTimeAlarm) 0) && ltb (averageTimeToEmpty p) (p .host .RemainingTimeAlarm)
 
--- 6: current not above 0
+-- 6 DISCHARGING: current not above 0
 abbrev pub discharging : Pack → Bool
 discharging p = not (above (p .latest .current))
 
--- 15 OVER_CHARGED: 0 (house)
-abbrev pub overCharged : Pack → Bool
-overCharged p = false
-
--- 16 BatteryStatus above its error code, high to low; 13 and 10 are reserved, 7 INITIALIZED is 1
+-- 16 BatteryStatus above its error code, high to low; 7 INITIALIZED is 1, 4 FULLY_DISCHARGED is kept, 13 and 10 are reserved
 unfoldable pub statusBits : Pack → ℕ
 statusBits p =
     bit 15 (overCharged p) + bit 14 (terminateCharge p) + bit 12 (overTemp p) + bit 11 (terminateDischarge p)

@@ -1,7 +1,7 @@
 // The word of every register, and the alarms that samples broadcast. Only our own crates call these.
 ghost use mathlib.Core.Path.{_≡_};
 ghost use mathlib.Core.Bool.{true};
-ghost use Prim.Native.Nat.{_+_, _%_, _≤_};
+ghost use Prim.Native.Nat.{_≤_};
 ghost use Rattle.gauge.specs.Status.{chargeFull, overTemp, terminateCharge, terminateDischarge, remainingCapacityLow, remainingTimeLow, discharging, statusBits, batteryStatus, alarmWord, chargingCurrent, chargerAlarm, anyAlarm};
 ghost use Rattle.average.specs.Average.{averageOf};
 ghost use Rattle.gauge.specs.Word.{wordOf};
@@ -11,30 +11,35 @@ ghost use Rattle.words.specs.Capacity.{milliampMs};
 use pack::Pack;
 use pack::State;
 
+// Bit 5.
 fn charge_full(p: Pack) -> bool
     ensures { λ r. ⌜ r ≡ chargeFull p ⌝ }
 {
     p.tank.charge == words::milliamp_ms(p.tank.full)
 }
 
+// Bit 12.
 fn over_temp(p: Pack) -> bool
     ensures { λ r. ⌜ r ≡ overTemp p ⌝ }
 {
     p.settings.TemperatureLimit < p.latest.temperature
 }
 
+// Bit 14.
 fn terminate_charge(p: Pack) -> bool
     ensures { λ r. ⌜ r ≡ terminateCharge p ⌝ }
 {
     words::rises(p.latest.current) & (charge_full(p) | over_temp(p))
 }
 
+// Bit 11.
 fn terminate_discharge(p: Pack) -> bool
     ensures { λ r. ⌜ r ≡ terminateDischarge p ⌝ }
 {
     words::falls(p.latest.current) & (p.latest.voltage < p.settings.DischargeLimit)
 }
 
+// Bit 9.
 fn remaining_capacity_low(p: Pack) -> bool
     requires { ⌜ p .tank .charge ≤ milliampMs (p .tank .full) ⌝ }
     ensures { λ r. ⌜ r ≡ remainingCapacityLow p ⌝ }
@@ -43,6 +48,7 @@ fn remaining_capacity_low(p: Pack) -> bool
     (limit != 0) & (registers::remaining_capacity(p) < limit)
 }
 
+// Bit 8.
 fn remaining_time_low(p: Pack) -> bool
     requires { ⌜ Measured p ⌝ }
     ensures { λ r. ⌜ r ≡ remainingTimeLow p ⌝ }
@@ -51,13 +57,14 @@ fn remaining_time_low(p: Pack) -> bool
     (limit != 0) & (registers::average_time_to_empty(p) < limit)
 }
 
+// Bit 6.
 fn discharging_now(p: Pack) -> bool
     ensures { λ r. ⌜ r ≡ discharging p ⌝ }
 {
     !words::rises(p.latest.current)
 }
 
-// 16 without its error code.
+// 16 without its error code; bits 15, 13 and 10 are 0.
 fn status_bits(p: Pack) -> u16
     requires { ⌜ Measured p ⌝ }
     ensures is { λ r. ⌜ r ≡ statusBits p ⌝ }
@@ -82,7 +89,7 @@ fn status_bits(p: Pack) -> u16
         + discharged
 }
 
-// 16.
+// 16 BatteryStatus.
 pub fn status(p: Pack, code: u8) -> u16
     requires { ⌜ Measured p ⌝ }
     ensures { λ r. ⌜ r ≡ batteryStatus p code ⌝ }
@@ -98,7 +105,7 @@ pub fn alarm_word(p: Pack) -> u16
     status(p, 15)
 }
 
-// 14.
+// 14 ChargingCurrent.
 pub fn charging_current(p: Pack) -> u16
     ensures { λ r. ⌜ r ≡ chargingCurrent p ⌝ }
 {
@@ -108,13 +115,14 @@ pub fn charging_current(p: Pack) -> u16
     p.settings.ChargingCurrent
 }
 
-// Whether the charger hears of an alarm too.
+// Whether bit 15, 14 or 12 is set: the charger hears of it too.
 pub fn charger_alarm(p: Pack) -> bool
     ensures { λ r. ⌜ r ≡ chargerAlarm p ⌝ }
 {
     terminate_charge(p) | over_temp(p)
 }
 
+// Whether any alarm bit is set.
 pub fn any_alarm(p: Pack) -> bool
     requires { ⌜ Measured p ⌝ }
     ensures { λ r. ⌜ r ≡ anyAlarm p ⌝ }
@@ -122,7 +130,7 @@ pub fn any_alarm(p: Pack) -> bool
     charger_alarm(p) | terminate_discharge(p) | remaining_capacity_low(p) | remaining_time_low(p)
 }
 
-// 03.
+// 03 BatteryMode.
 fn mode(p: Pack) -> u16
     ensures { λ r. ⌜ r ≡ batteryMode (p .host) ⌝ }
 {
@@ -130,7 +138,7 @@ fn mode(p: Pack) -> u16
     registers::battery_mode(host)
 }
 
-// 0B.
+// 0B AverageCurrent.
 fn mean(p: Pack) -> u16
     requires { ⌜ Measured p ⌝ }
     ensures { λ r. ⌜ r ≡ averageOf (p .kept) ⌝ }

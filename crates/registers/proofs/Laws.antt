@@ -10,9 +10,13 @@ use Rattle.words.proofs.Bounds.{energy-most, mAh-most, minutes-most}
 use Rattle.words.specs.Capacity.{milliampMs}
 use Rattle.words.specs.Words.{above, below, sizeOf}
 
-either : (b : Bool) (x y most : ℕ) → x ≤ most → y ≤ most → cond b x y ≤ most
-either true x y most f g = f
-either false x y most f g = g
+-- what holds of both holds of the one chosen
+pub either : (P : ℕ → Type 0) (b : Bool) (x y : ℕ) → P x → P y → P (cond b x y)
+either P true x y f g = f
+either P false x y f g = g
+
+at-most : (b : Bool) (x y most : ℕ) → x ≤ most → y ≤ most → cond b x y ≤ most
+at-most b x y most = either (λ n. n ≤ most) b x y
 
 each : (b : Bool) (x y u v : ℕ) → x ≤ u → y ≤ v → cond b x y ≤ cond b u v
 each true x y u v f g = f
@@ -27,27 +31,27 @@ remaining-at-most-full p h =
 
 -- a capacity of 16 bits stays one in either mode
 pub capacity-word : (p : Pack) (capacity : ℕ) → capacity ≤ 65535 → capacityOf p capacity ≤ 65535
-capacity-word p capacity h = either (p .host .CapacityMode) _ _ _ (omega arith) h
+capacity-word p capacity h = at-most (p .host .CapacityMode) _ _ _ (omega arith) h
 
 -- minutes and the mark for none
 pub minutes-word : (flows : Bool) (capacity rate : ℕ) → minutesIf flows capacity rate ≤ 65535
-minutes-word flows capacity rate = either flows _ _ _ (omega (arith, minutes-most capacity rate)) (omega arith)
+minutes-word flows capacity rate = at-most flows _ _ _ (omega (arith, minutes-most capacity rate)) (omega arith)
 
 -- 05
 pub to-full-word : (p : Pack) → atRateTimeToFull p ≤ 65535
-to-full-word p = either (p .host .CapacityMode) _ _ _ (omega arith)
+to-full-word p = at-most (p .host .CapacityMode) _ _ _ (omega arith)
     (minutes-word (above (p .host .AtRate)) (missing p) (sizeOf (p .host .AtRate)))
 
 -- 07
 pub ok-word : (p : Pack) → atRateOK p ≤ 1
-ok-word p = either (below (p .host .AtRate)) _ _ _ (either (covers p) _ _ _ (omega arith) (omega arith)) (omega arith)
+ok-word p = at-most (below (p .host .AtRate)) _ _ _ (at-most (covers p) _ _ _ (omega arith) (omega arith)) (omega arith)
 
 -- 03
 pub mode-word : (h : Host) → batteryMode h ≤ 65535
 mode-word h =
     omega (
       arith,
-      either (h .AlarmMode) 8192 0 8192 (omega arith) (omega arith),
-      either (h .ChargerMode) 16384 0 16384 (omega arith) (omega arith),
-      either (h .CapacityMode) 32768 0 32768 (omega arith) (omega arith),
+      at-most (h .AlarmMode) 8192 0 8192 (omega arith) (omega arith),
+      at-most (h .ChargerMode) 16384 0 16384 (omega arith) (omega arith),
+      at-most (h .CapacityMode) 32768 0 32768 (omega arith) (omega arith),
     )

@@ -23,7 +23,7 @@ bit k on = cond on (2 ^ k) 0
 abbrev pub batteryMode : Host → ℕ
 batteryMode h = bit 13 (h .AlarmMode) + bit 14 (h .ChargerMode) + bit 15 (h .CapacityMode)
 
--- mAh as 10, 18 give it: whole mAh; in power mode 10 mWh, capped at 65,535
+-- a capacity as 10 and 18 show it: whole mAh; in power mode 10 mWh, capped at 65,535
 abbrev pub capacityOf : Pack → ℕ → ℕ
 capacityOf p capacity = cond (p .host .CapacityMode) (cappedWord (powerOf capacity (p .settings .DesignVoltage))) capacity
 

@@ -15,13 +15,14 @@ pub fn flag(on: bool, weight: u16) -> u16
     if on { weight } else { 0 }
 }
 
-// 03.
+// 03 BatteryMode.
 pub fn battery_mode(h: Host) -> u16
     ensures { λ r. ⌜ r ≡ batteryMode h ⌝ }
 {
     flag(h.AlarmMode, 8192) + flag(h.ChargerMode, 16384) + flag(h.CapacityMode, 32768)
 }
 
+// A capacity in mAh, in power mode in 10 mWh.
 fn capacity_of(p: Pack, capacity: u16) -> u16
     ensures { λ r. ⌜ r ≡ capacityOf p capacity ⌝ }
 {
@@ -31,7 +32,7 @@ fn capacity_of(p: Pack, capacity: u16) -> u16
     capacity
 }
 
-// 0F.
+// 0F RemainingCapacity.
 pub fn remaining_capacity(p: Pack) -> u16
     requires { ⌜ p .tank .charge ≤ milliampMs (p .tank .full) ⌝ }
     ensures { λ r. ⌜ r ≡ remainingCapacity p ⌝ }
@@ -42,21 +43,21 @@ pub fn remaining_capacity(p: Pack) -> u16
     (p.tank.charge / 3600000) as u16
 }
 
-// 10.
+// 10 FullChargeCapacity.
 pub fn full_charge_capacity(p: Pack) -> u16
     ensures { λ r. ⌜ r ≡ fullChargeCapacity p ⌝ }
 {
     capacity_of(p, p.tank.full)
 }
 
-// 18.
+// 18 DesignCapacity.
 pub fn design_capacity(p: Pack) -> u16
     ensures { λ r. ⌜ r ≡ designCapacity p ⌝ }
 {
     capacity_of(p, p.settings.DesignCapacity)
 }
 
-// 0D.
+// 0D RelativeStateOfCharge.
 pub fn relative_state_of_charge(p: Pack) -> u16
     requires { ⌜ (p .tank .charge ≤ milliampMs (p .tank .full)) × (0 < p .tank .full) ⌝ }
     ensures { λ r. ⌜ r ≡ relativeStateOfCharge p ⌝ }
@@ -64,7 +65,7 @@ pub fn relative_state_of_charge(p: Pack) -> u16
     words::relative(p.tank.charge, p.tank.full)
 }
 
-// 0E.
+// 0E AbsoluteStateOfCharge.
 pub fn absolute_state_of_charge(p: Pack) -> u16
     requires { ⌜ (p .tank .charge ≤ milliampMs (p .tank .full)) × (0 < p .settings .DesignCapacity) ⌝ }
     ensures { λ r. ⌜ r ≡ absoluteStateOfCharge p ⌝ }
@@ -72,6 +73,7 @@ pub fn absolute_state_of_charge(p: Pack) -> u16
     words::capped(words::percent(p.tank.charge, p.settings.DesignCapacity))
 }
 
+// Minutes if the rate flows the command's way.
 fn minutes_if(flows: bool, capacity: u16, rate: u32) -> u16
     ensures { λ r. ⌜ r ≡ minutesIf flows capacity rate ⌝ }
 {
@@ -81,7 +83,7 @@ fn minutes_if(flows: bool, capacity: u16, rate: u32) -> u16
     65535
 }
 
-// 06.
+// 06 AtRateTimeToEmpty.
 pub fn at_rate_time_to_empty(p: Pack) -> u16
     requires { ⌜ p .tank .charge ≤ milliampMs (p .tank .full) ⌝ }
     ensures { λ r. ⌜ r ≡ atRateTimeToEmpty p ⌝ }
@@ -102,7 +104,7 @@ fn missing_capacity(p: Pack) -> u16
     full - remaining
 }
 
-// 05.
+// 05 AtRateTimeToFull.
 pub fn at_rate_time_to_full(p: Pack) -> u16
     requires { ⌜ p .tank .charge ≤ milliampMs (p .tank .full) ⌝ }
     ensures { λ r. ⌜ r ≡ atRateTimeToFull p ⌝ }
@@ -116,7 +118,7 @@ pub fn at_rate_time_to_full(p: Pack) -> u16
     minutes_if(flows, left, rate)
 }
 
-// The mA of the present discharge.
+// The present discharge in mA.
 fn present_discharge(p: Pack) -> u32
     ensures is { λ r. ⌜ r ≡ presentDischarge p ⌝ }
     ensures small { λ r. ⌜ r ≤ 32768 ⌝ }
@@ -142,7 +144,7 @@ fn covers_it(p: Pack) -> bool
     10000 * (rate + drawn) <= p.tank.charge
 }
 
-// 07.
+// 07 AtRateOK.
 pub fn at_rate_ok(p: Pack) -> u16
     requires { ⌜ p .tank .charge ≤ milliampMs (p .tank .full) ⌝ }
     ensures { λ r. ⌜ r ≡ atRateOK p ⌝ }
@@ -164,6 +166,7 @@ fn rate_of(p: Pack, current: u16) -> u32
     size
 }
 
+// Minutes until empty at a current.
 fn time_to_empty_at(p: Pack, current: u16) -> u16
     requires { ⌜ p .tank .charge ≤ milliampMs (p .tank .full) ⌝ }
     ensures { λ r. ⌜ r ≡ timeToEmptyAt p current ⌝ }
@@ -174,7 +177,7 @@ fn time_to_empty_at(p: Pack, current: u16) -> u16
     minutes_if(flows, remaining, rate)
 }
 
-// 11.
+// 11 RunTimeToEmpty.
 pub fn run_time_to_empty(p: Pack) -> u16
     requires { ⌜ p .tank .charge ≤ milliampMs (p .tank .full) ⌝ }
     ensures { λ r. ⌜ r ≡ runTimeToEmpty p ⌝ }
@@ -182,7 +185,7 @@ pub fn run_time_to_empty(p: Pack) -> u16
     time_to_empty_at(p, p.latest.current)
 }
 
-// 12.
+// 12 AverageTimeToEmpty.
 pub fn average_time_to_empty(p: Pack) -> u16
     requires { ⌜ Measured p ⌝ }
     ensures { λ r. ⌜ r ≡ averageTimeToEmpty p ⌝ }
@@ -191,7 +194,7 @@ pub fn average_time_to_empty(p: Pack) -> u16
     time_to_empty_at(p, average::average(kept))
 }
 
-// 13.
+// 13 AverageTimeToFull.
 pub fn average_time_to_full(p: Pack) -> u16
     requires { ⌜ Measured p ⌝ }
     ensures { λ r. ⌜ r ≡ averageTimeToFull p ⌝ }

@@ -1,3 +1,5 @@
+-- `gauge::any_alarm` meets its contract.
+-- Assumes nothing.
 use borrow.Author.Needs.{needs}
 use Rattle.gauge.proofs.any_alarm.Statement.{statement}
 use Rattle.gauge.proofs.any_alarm.Tie as tie

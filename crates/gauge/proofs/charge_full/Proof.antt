@@ -1,3 +1,5 @@
+-- `gauge::charge_full` meets its contract.
+-- Assumes nothing.
 use borrow.Author.Needs.{needs}
 use Rattle.gauge.proofs.charge_full.Statement.{statement}
 use Rattle.gauge.proofs.charge_full.Tie as tie

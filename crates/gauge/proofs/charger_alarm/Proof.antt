@@ -1,3 +1,5 @@
+-- `gauge::charger_alarm` meets its contract.
+-- Assumes nothing.
 use borrow.Author.Needs.{needs}
 use Rattle.gauge.proofs.charger_alarm.Statement.{statement}
 use Rattle.gauge.proofs.charger_alarm.Tie as tie

@@ -1,3 +1,5 @@
+-- `gauge::charging_current` meets its contract.
+-- Assumes nothing.
 use borrow.Author.Needs.{needs}
 use Rattle.gauge.proofs.charging_current.Statement.{statement}
 use Rattle.gauge.proofs.charging_current.Tie as tie

@@ -1,3 +1,5 @@
+-- `gauge::discharging_now` meets its contract.
+-- Assumes nothing.
 use borrow.Author.Needs.{needs}
 use Rattle.gauge.proofs.discharging_now.Statement.{statement}
 use Rattle.gauge.proofs.discharging_now.Tie as tie

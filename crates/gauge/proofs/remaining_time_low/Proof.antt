@@ -1,3 +1,5 @@
+-- `gauge::remaining_time_low` meets its contract.
+-- Assumes nothing.
 use borrow.Author.Needs.{needs}
 use Rattle.gauge.proofs.remaining_time_low.Statement.{statement}
 use Rattle.gauge.proofs.remaining_time_low.Tie as tie

@@ -1,3 +1,5 @@
+-- `gauge::status_bits` meets its contract: flag by flag.
+-- Assumes nothing.
 use borrow.Author.Needs.{needs}
 use native.Mathlib.Nat.{zero-add}
 use native.Mathlib.Omega.{arith}

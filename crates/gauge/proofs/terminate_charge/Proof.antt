@@ -1,3 +1,5 @@
+-- `gauge::terminate_charge` meets its contract.
+-- Assumes nothing.
 use borrow.Author.Needs.{needs}
 use Rattle.gauge.proofs.terminate_charge.Statement.{statement}
 use Rattle.gauge.proofs.terminate_charge.Tie as tie

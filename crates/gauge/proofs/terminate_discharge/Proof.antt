@@ -1,3 +1,5 @@
+-- `gauge::terminate_discharge` meets its contract.
+-- Assumes nothing.
 use borrow.Author.Needs.{needs}
 use Rattle.gauge.proofs.terminate_discharge.Statement.{statement}
 use Rattle.gauge.proofs.terminate_discharge.Tie as tie

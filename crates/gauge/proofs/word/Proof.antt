@@ -1,4 +1,5 @@
--- each arm by its key, the default by all the keys that it isn't
+-- `gauge::word` meets its contract: each arm by its key, the default by all the keys that it isn't.
+-- Assumes nothing.
 use Prim.Native.Nat.{ℕ}
 use borrow.Author.Needs.{needs}
 use borrow.Author.Tests.{ne-eqb}

@@ -1,3 +1,5 @@
+-- `registers::at_rate_ok` meets its contract.
+-- Assumes nothing.
 use borrow.Author.Needs.{needs}
 use Rattle.registers.proofs.at_rate_ok.Statement.{statement}
 use Rattle.registers.proofs.at_rate_ok.Tie as tie

@@ -1,3 +1,5 @@
+-- `registers::at_rate_time_to_empty` meets its contract.
+-- Assumes nothing.
 use borrow.Author.Needs.{needs}
 use Rattle.registers.proofs.at_rate_time_to_empty.Statement.{statement}
 use Rattle.registers.proofs.at_rate_time_to_empty.Tie as tie

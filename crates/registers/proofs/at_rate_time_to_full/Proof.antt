@@ -1,3 +1,5 @@
+-- `registers::at_rate_time_to_full` meets its contract.
+-- Assumes nothing.
 use borrow.Author.Needs.{needs}
 use Rattle.registers.proofs.at_rate_time_to_full.Statement.{statement}
 use Rattle.registers.proofs.at_rate_time_to_full.Tie as tie

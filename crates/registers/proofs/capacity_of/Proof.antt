@@ -1,3 +1,5 @@
+-- `registers::capacity_of` meets its contract.
+-- Assumes nothing.
 use borrow.Author.Needs.{needs}
 use Rattle.registers.proofs.capacity_of.Statement.{statement}
 use Rattle.registers.proofs.capacity_of.Tie as tie

@@ -1,3 +1,5 @@
+-- `registers::covers_it` meets its contract: the products stay below 2^64.
+-- Assumes nothing.
 use Prim.Native.Nat.{_≤_}
 use borrow.Author.Needs.{needs}
 use native.Mathlib.Nat.{mul-le-mul}

@@ -1,3 +1,5 @@
+-- `registers::design_capacity` meets its contract.
+-- Assumes nothing.
 use borrow.Author.Needs.{needs}
 use Rattle.registers.specs.Registers.{designCapacity}
 use Rattle.registers.proofs.design_capacity.Statement.{statement}

@@ -1,3 +1,5 @@
+-- `registers::full_charge_capacity` meets its contract.
+-- Assumes nothing.
 use borrow.Author.Needs.{needs}
 use Rattle.registers.specs.Registers.{fullChargeCapacity}
 use Rattle.registers.proofs.full_charge_capacity.Statement.{statement}

@@ -1,3 +1,5 @@
+-- `registers::minutes_if` meets its contract.
+-- Assumes nothing.
 use borrow.Author.Needs.{needs}
 use Rattle.registers.proofs.minutes_if.Statement.{statement}
 use Rattle.registers.proofs.minutes_if.Tie as tie

@@ -1,3 +1,5 @@
+-- `registers::missing_capacity` meets its contract: 0F is never above 10, so the difference is no less than 0.
+-- Assumes nothing.
 use borrow.Author.Needs.{needs}
 use native.Mathlib.Omega.{arith}
 use Rattle.registers.proofs.Laws.{remaining-at-most-full}

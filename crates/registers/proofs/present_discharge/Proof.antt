@@ -1,3 +1,5 @@
+-- `registers::present_discharge` meets its contract.
+-- Assumes nothing.
 use borrow.Author.Needs.{needs}
 use native.Mathlib.Omega.{arith}
 use Rattle.registers.proofs.present_discharge.Statement.{statement}

@@ -1,3 +1,5 @@
+-- `registers::rate_of` meets its contract: the power fits 32 bits.
+-- Assumes nothing.
 use Prim.Native.Nat.{_≤_}
 use borrow.Author.Needs.{needs}
 use native.Mathlib.Nat.{mul-le-mul}

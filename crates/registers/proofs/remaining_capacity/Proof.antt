@@ -1,3 +1,5 @@
+-- `registers::remaining_capacity` meets its contract.
+-- Assumes nothing.
 use borrow.Author.Needs.{needs}
 use Rattle.registers.specs.Registers.{remainingCapacity}
 use Rattle.registers.proofs.remaining_capacity.Statement.{statement}

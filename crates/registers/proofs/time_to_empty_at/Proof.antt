@@ -1,3 +1,5 @@
+-- `registers::time_to_empty_at` meets its contract.
+-- Assumes nothing.
 use borrow.Author.Needs.{needs}
 use Rattle.registers.proofs.time_to_empty_at.Statement.{statement}
 use Rattle.registers.proofs.time_to_empty_at.Tie as tie
