@@ -1,4 +1,3 @@
 pub mod Rows
+pub mod Lengths
 pub mod Names
-pub mod Stores
-pub mod Laid

@@ -6,7 +6,7 @@ use Prim.Native.Nat.{ℕ, zero, suc, _+_, _*_, _-_, _≤_, _<_}
 use native.Mathlib.Omega.{arith}
 use lib.Dec.{eqb, ltb, leb}
 use lib.ListN.{length, getD}
-use borrow.Author.Tests.{le-ltb, lt-ltb, le-leb, lt-leb, eqb-true, leb-true, ltb-true}
+use borrow.Author.Tests.{lt-ltb, le-leb, lt-leb, eqb-true, leb-true, ltb-true}
 use Rattle.sheet.specs.Sheet.{tagAt, lengthAt, offsetAt, rowOk, rowsOk, isSheet}
 
 pub both : (a b : Bool) → a && b ≡ true → (a ≡ true) × (b ≡ true)

@@ -1,18 +1,18 @@
 -- Bytes are a sheet exactly when the writer gives them for some choice. Assumes nothing.
 use mathlib.Core.Path.{_≡_, refl, sym, ap, _∙_}
 use mathlib.Core.Logic.{_↔_}
-use mathlib.Core.Bool.{Bool, true, false, _&&_}
+use mathlib.Core.Bool.{Bool, true, false}
 use mathlib.Core.List.{List, [], _∷_, _++_}
-use mathlib.Core.Option.{Option, none, some}
+use mathlib.Core.Option.{none, some}
 use Prim.Native.Nat.{ℕ, zero, suc, _+_, _*_, _-_, _/_, _%_, _≤_, _<_}
 use native.Mathlib.Omega.{arith}
 use lib.Dec.{eqb, leb}
 use lib.ListN.{length, getD, take, drop, length-append, take-append-drop, length-drop, drop-of-length-le}
 use lib.Seq.{drop-cons, drop-drop, length-take-le}
 use borrow.Author.Tests.{lt-ltb, le-leb, eq-eqb, eqb-true, eqb-false, leb-true}
-use Rattle.sheet.specs.Sheet.{Entry, rowsOf, contentsOf, bodiesOf, Choice, listed, sheetOf, short, tagAt, lengthAt, offsetAt, rowOk, rowsOk, isSheet}
+use Rattle.sheet.specs.Sheet.{Entry, rowsOf, bodiesOf, Choice, listed, sheetOf, short, tagAt, lengthAt, rowOk, rowsOk, isSheet}
 use Rattle.sheet.proofs.Rows.{both, first-right, reach, contents}
-use Rattle.sheet.proofs.Laid.{rows-length, few-listed, sheet-length}
+use Rattle.sheet.proofs.Lengths.{few-listed, sheet-length}
 use Rattle.sheet_laws.specs.Written.{Written, Bytes}
 use Rattle.sheet_laws.proofs.ReadBack.{tag-is, length-is, offset-is, past, past-length}
 
@@ -109,7 +109,7 @@ module _ (s : List ℕ) (bytes : Bytes s) (m n at low end : ℕ) (h : at + 4 * s
         small = rw (le-leb _ _ k-short) (R .small);
         count = ap suc (R .count);
         rows = four-more s at n (omega arith) ∙ rw (k, lo, hi, t, R .rows);
-        rest = sym (take-append-drop l (drop end s)) ∙ ap (λ (w : List ℕ). take l (drop end s) ++ w) (drop-drop l end s ∙ R .rest)
+        rest = sym (take-append-drop l (drop end s)) ∙ ap (λ (w : List ℕ). take l (drop end s) ++ w) (drop-drop l end s ∙ R .rest);
       }
 
   next-rows : tagAt s at ≡ low → rowsOk n s (at + 4) (low + 1) (end + lengthAt s at) ≡ true
@@ -137,7 +137,7 @@ read s bytes zero (suc n) at low end k h e =
 read s bytes (suc m) zero at low end k h e = skip m 0 s at low end (read s bytes m 0 at (low + 1) end (omega arith) h e)
 read s bytes (suc m) (suc n) at low end k h e =
     some-row s bytes m n at low end h e (λ o. read s bytes m n (at + 4) (low + 1) (end + lengthAt s at) (omega arith) (omega arith) o)
-        (λ o. read s bytes m (suc n) at (low + 1) end (omega arith) h o) (eqb (tagAt s at) low) refl
+    (λ o. read s bytes m (suc n) at (low + 1) end (omega arith) h o) (eqb (tagAt s at) low) refl
 
 pub is-written : (s : List ℕ) → Bytes s → isSheet s ≡ true → Written s
 unfolding sheetOf
@@ -148,7 +148,7 @@ is-written s bytes e =
     let es : List Entry = listed 32 (R .bodies) in
     let q : s ≡ n ∷ drop 1 s = drop-cons s 0 0 (c .some) in
     let t : drop 1 s ≡ rowsOf (1 + 4 * n) es ++ bodiesOf es =
-          sym (take-append-drop (4 * n) (drop 1 s)) ∙ ap (λ (w : List ℕ). w ++ drop (4 * n) (drop 1 s)) (R .rows) ∙ ap (λ (w : List ℕ). rowsOf (1 + 4 * n) es ++ w) (drop-drop (4 * n) 1 s ∙ R .rest) in
+    sym (take-append-drop (4 * n) (drop 1 s)) ∙ ap (λ (w : List ℕ). w ++ drop (4 * n) (drop 1 s)) (R .rows) ∙ ap (λ (w : List ℕ). rowsOf (1 + 4 * n) es ++ w) (drop-drop (4 * n) 1 s ∙ R .rest) in
     record { bodies = R .bodies; four = R .size; small = R .small; is = q ∙ rw (R .count, t) }
 
 -- bytes are a sheet exactly when the writer gives them for some choice

@@ -3,17 +3,15 @@ use mathlib.Core.Path.{_≡_, refl, sym, ap, _∙_}
 use mathlib.Core.Bool.{Bool, true, false, cond}
 use mathlib.Core.List.{List, [], _∷_, _++_, append-assoc}
 use mathlib.Core.Option.{Option, none, some}
-use Prim.Native.Nat.{ℕ, zero, suc, _+_, _*_, _-_, _/_, _%_, _≤_, _<_}
+use Prim.Native.Nat.{ℕ, zero, suc, _+_, _*_, _-_, _/_, _%_, _<_}
 use native.Mathlib.Omega.{arith}
 use lib.Dec.{eqb}
-use lib.ListN.{length, getD, take, drop, length-append}
+use lib.ListN.{length, getD, drop, length-append}
 use lib.Seq.{getD-append-seam, getD-append-add, drop-append-seam, drop-at, take-append-seam, drop-drop, ext-getD}
 use borrow.Author.Tests.{eq-eqb, ne-eqb}
-use Rattle.sheet.specs.declared.Found.{Found}
-use Rattle.sheet.specs.declared.Found.the-variants.{At, Nothing}
 use Rattle.sheet.specs.Sheet.{Entry, rowsOf, contentsOf, bodiesOf, Choice, listed, sheetOf, tagAt, lengthAt, offsetAt}
-use Rattle.sheet.specs.Block.{findRow, findIn, between, foundIn, bodyIn}
-use Rattle.sheet.proofs.Laid.{rows-length}
+use Rattle.sheet.specs.Block.{findRow, foundIn, bodyIn}
+use Rattle.sheet.proofs.Lengths.{rows-length}
 
 -- ---- the four bytes at the end of p in p ++ (a ∷ b ∷ c ∷ d ∷ r)
 module _ (p r : List ℕ) (a b c d : ℕ) where

@@ -1,6 +1,5 @@
-use mathlib.Core.Path.{_≡_, sym, ap, _∙_}
+use mathlib.Core.Path.{sym, ap, _∙_}
 use mathlib.Core.Bool.{Bool, cond}
-use Prim.Native.Nat.{ℕ}
 use Rattle.sheet.proofs.Names.{answered}
 use borrow.Author.Needs.{needs}
 use Rattle.sheet.proofs.block_answer.Statement.{statement}

@@ -1,6 +1,6 @@
 use borrow.Author.Needs.{needs}
-use Rattle.sheet.proofs.short_body.Statement.{statement}
-use Rattle.sheet.proofs.short_body.Tie as tie
+use Rattle.sheet_writer.proofs.short_body.Statement.{statement}
+use Rattle.sheet_writer.proofs.short_body.Tie as tie
 
 returns : tie.Need-returns
 returns c = rw (c .if1 .taken)

@@ -1,11 +1,11 @@
-use mathlib.Core.Path.{_≡_, refl, sym, ap, _∙_}
-use Prim.Native.Nat.{ℕ, _<_, _≤_, _+_, _-_}
+use mathlib.Core.Path.{_≡_, refl}
+use Prim.Native.Nat.{_≤_, _-_}
 use native.Mathlib.Omega.{arith}
 use lib.ListN.{length, take, length-set}
 use lib.Seq.{sets, take-all}
-use Rattle.sheet.proofs.Stores.{one-more}
-use Rattle.sheet.proofs.put_bytes.Statement.{statement}
-use Rattle.sheet.proofs.put_bytes.Tie as tie
+use Rattle.sheet_writer.proofs.Stores.{one-more}
+use Rattle.sheet_writer.proofs.put_bytes.Statement.{statement}
+use Rattle.sheet_writer.proofs.put_bytes.Tie as tie
 
 abbrev Inv-loop : tie.InvT-loop
 Inv-loop room₀ at body i₀ room i = (i ≤ length body) × (room ≡ sets room₀ at (take i body)) × (length room ≡ length room₀)

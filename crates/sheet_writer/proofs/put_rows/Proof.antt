@@ -1,14 +1,15 @@
-use mathlib.Core.Path.{_≡_, refl, sym, ap, _∙_}
-use mathlib.Core.List.{List, [], _∷_}
-use Prim.Native.Nat.{ℕ, _+_, _*_, _≤_}
+use mathlib.Core.Path.{_≡_, ap, _∙_}
+use mathlib.Core.List.{[], _∷_}
+use Prim.Native.Nat.{ℕ, _+_, _*_}
 use native.Mathlib.Omega.{arith}
 use borrow.Author.Needs.{needs}
 use lib.ListN.{length, set, length-set}
 use lib.Seq.{sets}
-use Rattle.sheet.specs.Sheet.{rowsOf, contentsOf, listed, chosen, choice}
-use Rattle.sheet.proofs.Laid.{Shorts, shorts, one-listed, next-row}
-use Rattle.sheet.proofs.put_rows.Statement.{statement}
-use Rattle.sheet.proofs.put_rows.Tie as tie
+use Rattle.sheet.specs.Sheet.{rowsOf, listed}
+use Rattle.sheet_writer.specs.Writing.{chosen, choice}
+use Rattle.sheet_writer.proofs.Laid.{Shorts, shorts, one-listed, next-row}
+use Rattle.sheet_writer.proofs.put_rows.Statement.{statement}
+use Rattle.sheet_writer.proofs.put_rows.Tie as tie
 
 all-short : (c : tie.Start) → Shorts (c .args .has20) (c .args .body20 .now) (c .args .has21) (c .args .body21 .now) (c .args .has22) (c .args .body22 .now) (c .args .has23) (c .args .body23 .now)
 all-short c = shorts (c .args .has20) (c .args .body20 .now) (c .args .has21) (c .args .body21 .now) (c .args .has22) (c .args .body22 .now) (c .args .has23) (c .args .body23 .now) (c .pre .1)

@@ -1,19 +1,20 @@
 -- What the writer lays down: rows and bodies one after the other are those of the choice. Assumes nothing.
 use mathlib.Core.Path.{_≡_, refl, sym, ap, _∙_}
 use mathlib.Core.Bool.{Bool, true, false, cond, _&&_}
-use mathlib.Core.List.{List, [], _∷_, _++_, append-nil}
-use mathlib.Core.Option.{Option, none, some}
+use mathlib.Core.List.{List, [], _∷_, _++_}
+use mathlib.Core.Option.{Option}
 use Prim.Native.Nat.{ℕ, suc, _+_, _*_, _≤_, _<_}
 use native.Mathlib.Nat.{add-zero}
 use native.Mathlib.Omega.{arith}
-use lib.Dec.{leb}
 use lib.ListN.{length, set, drop, length-append}
 use lib.Seq.{sets, sets-eq}
-use borrow.Author.Tests.{le-leb, lt-leb, leb-true}
-use Rattle.sheet.specs.declared.Wrote.{Wrote}
-use Rattle.sheet.specs.Sheet.{Entry, rowsOf, contentsOf, bodiesOf, Choice, listed, sheetOf, shortBody, short, chosen, choice, written, wroteOf, roomOf}
+use borrow.Author.Tests.{le-leb, lt-leb}
+use Rattle.sheet.specs.Sheet.{Entry, rowsOf, contentsOf, bodiesOf, Choice, listed, sheetOf, shortBody, short}
 use Rattle.sheet.proofs.Rows.{both}
-use Rattle.sheet.proofs.Stores.{then}
+use Rattle.sheet.proofs.Lengths.{rows-length, sheet-bound}
+use Rattle.sheet_writer.specs.declared.Wrote.{Wrote}
+use Rattle.sheet_writer.specs.Writing.{chosen, choice, written, wroteOf, roomOf}
+use Rattle.sheet_writer.proofs.Stores.{then}
 
 -- four stores are a row
 pub row-laid : (l : List ℕ) (at a b c d : ℕ) → set (set (set (set l at a) (at + 1) b) (at + 2) c) (at + 3) d ≡ sets l at (a ∷ b ∷ c ∷ d ∷ [])
@@ -99,32 +100,6 @@ module _ (bs : Choice) (room : List ℕ) where
   pub small-room : short bs ≡ true → length room < 145 → Refused
   unfolding written
   small-room e h = refused (rw (e, lt-leb _ _ h))
-
--- ---- lengths
-
-pub rows-length : (es : List Entry) (offset : ℕ) → length (rowsOf offset es) ≡ 4 * length es
-rows-length [] offset = refl
-rows-length (e ∷ es) offset = omega (arith, rows-length es (offset + length (e .body)))
-
-pub few-listed : (tag : ℕ) (bs : Choice) → length (listed tag bs) ≤ length bs
-few-listed tag [] = omega arith
-few-listed tag (none ∷ bs) = omega (arith, few-listed (tag + 1) bs)
-few-listed tag (some b ∷ bs) = omega (arith, few-listed (tag + 1) bs)
-
-few-bytes : (tag : ℕ) (bs : Choice) → short bs ≡ true → length (bodiesOf (listed tag bs)) ≤ 32 * length bs
-few-bytes tag [] e = omega arith
-few-bytes tag (none ∷ bs) e = omega (arith, few-bytes (tag + 1) bs e)
-few-bytes tag (some b ∷ bs) e =
-    let s = both (leb (length b) 32) (short bs) e in
-    omega (arith, few-bytes (tag + 1) bs (s .1), leb-true (length b) 32 (s .0), length-append b (bodiesOf (listed (tag + 1) bs)))
-
-pub sheet-length : (bs : Choice) → length (sheetOf bs) ≡ 1 + 4 * length (listed 32 bs) + length (bodiesOf (listed 32 bs))
-unfolding sheetOf
-sheet-length bs = omega (arith, length-append (contentsOf (length (listed 32 bs)) (listed 32 bs)) (bodiesOf (listed 32 bs)), rows-length (listed 32 bs) (1 + 4 * length (listed 32 bs)))
-
--- 36 bytes for each tag, and byte n: for four tags at most 145
-pub sheet-bound : (bs : Choice) → short bs ≡ true → length (sheetOf bs) ≤ 1 + 36 * length bs
-sheet-bound bs e = omega (arith, sheet-length bs, few-listed 32 bs, few-bytes 32 bs e)
 
 -- ---- the sheet
 

@@ -1,12 +1,11 @@
-use mathlib.Core.Path.{_≡_, refl, sym, ap, _∙_}
-use Prim.Native.Nat.{ℕ, _+_, _/_, _%_, _≤_}
+use Prim.Native.Nat.{_/_, _%_, _≤_}
 use native.Mathlib.Omega.{arith}
 use borrow.Author.Needs.{needs}
 use borrow.Author.Tests.{leb-true}
 use lib.ListN.{length, length-set}
-use Rattle.sheet.proofs.Laid.{row-laid}
-use Rattle.sheet.proofs.put_row.Statement.{statement}
-use Rattle.sheet.proofs.put_row.Tie as tie
+use Rattle.sheet_writer.proofs.Laid.{row-laid}
+use Rattle.sheet_writer.proofs.put_row.Statement.{statement}
+use Rattle.sheet_writer.proofs.put_row.Tie as tie
 
 at-most-32 : (c : tie.Then1) → length (c .before .args .body .now) ≤ 32
 at-most-32 c = leb-true _ _ (rw (c .if1 .taken) at (c .before .pre .1 .1))

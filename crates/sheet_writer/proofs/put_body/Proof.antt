@@ -1,11 +1,10 @@
-use mathlib.Core.Path.{_≡_, refl, sym, ap, _∙_}
-use Prim.Native.Nat.{ℕ, _+_, _≤_}
+use Prim.Native.Nat.{_≤_}
 use native.Mathlib.Omega.{arith}
 use borrow.Author.Needs.{needs}
 use borrow.Author.Tests.{leb-true}
 use lib.ListN.{length}
-use Rattle.sheet.proofs.put_body.Statement.{statement}
-use Rattle.sheet.proofs.put_body.Tie as tie
+use Rattle.sheet_writer.proofs.put_body.Statement.{statement}
+use Rattle.sheet_writer.proofs.put_body.Tie as tie
 
 at-most-32 : (c : tie.Then1) → length (c .before .before .before .args .body .now) ≤ 32
 at-most-32 c = leb-true _ _ (rw (c .if1 .taken) at (c .before .before .before .pre .1))

@@ -1,13 +1,13 @@
 use mathlib.Core.Path.{_≡_, refl, sym, _∙_}
-use mathlib.Core.Bool.{Bool, true, false, _&&_}
-use Prim.Native.Nat.{ℕ, _+_, _≤_}
+use mathlib.Core.Bool.{true, _&&_}
 use native.Mathlib.Omega.{arith}
 use borrow.Author.Needs.{needs}
 use borrow.Author.Tests.{not-true, not-false}
-use Rattle.sheet.specs.Sheet.{short, chosen, choice}
-use Rattle.sheet.proofs.Laid.{four-short, long-body, small-room, sheet-written}
-use Rattle.sheet.proofs.write_sheet.Statement.{statement}
-use Rattle.sheet.proofs.write_sheet.Tie as tie
+use Rattle.sheet.specs.Sheet.{short}
+use Rattle.sheet_writer.specs.Writing.{chosen, choice}
+use Rattle.sheet_writer.proofs.Laid.{four-short, long-body, small-room, sheet-written}
+use Rattle.sheet_writer.proofs.write_sheet.Statement.{statement}
+use Rattle.sheet_writer.proofs.write_sheet.Tie as tie
 
 -- the four tests together are the test of the choice
 tested : (c : tie.After-short-body4) → (c .before .before .before .short-body .result && c .before .before .short-body2 .result) && (c .before .short-body3 .result && c .short-body4 .result) ≡ short (choice (c .before .before .before .before .before .before .before .before .before .args .has20) (c .before .before .before .before .before .before .before .before .before .args .body20 .now) (c .before .before .before .before .before .before .before .before .before .args .has21) (c .before .before .before .before .before .before .before .before .before .args .body21 .now) (c .before .before .before .before .before .before .before .before .before .args .has22) (c .before .before .before .before .before .before .before .before .before .args .body22 .now) (c .before .before .before .before .before .before .before .before .before .args .has23) (c .before .before .before .before .before .before .before .before .before .args .body23 .now))
