@@ -6,18 +6,17 @@ use mathlib.Core.List.{List, [], _∷_, _++_, append-assoc}
 use Prim.Native.Nat.{ℕ, _+_, _-_, _≤_, _<_}
 use native.Mathlib.Omega.{arith}
 use borrow.Author.Tests.{eq-eqb, eqb-true}
-use lib.Bits.{bitXor}
 use lib.Dec.{eqb}
 use lib.ListN.{length, getD, take, drop, length-append}
 use lib.Seq.{getD-at, take-at}
 use Rattle.words.specs.Words.{joined}
-use Rattle.pec.specs.Pec.{byteStep, pecFrom, pecOf}
+use Rattle.pec.specs.Pec.{pecFrom, pecOf}
 use Rattle.pec.specs.Messages.{endsInPec, Right}
+use Rattle.pec.proofs.Bounds.{pec-lt}
 use Rattle.pec.proofs.Join.{join}
 use Rattle.pec_laws.specs.Places.{Bytes}
 use Rattle.pec_laws.specs.Faults.{Rights}
 use Rattle.pec_laws.proofs.Theorems.{misheard}
-use Rattle.pec_laws.proofs.Zero.{pec-lt}
 use Rattle.frame.specs.Transactions.{readBytes, withPec, wordBody, blockBody, replyOf, exchangeOf}
 
 pub reply-length : (request body : List ℕ) → length (replyOf request body) ≡ length body + 1
@@ -54,7 +53,8 @@ word-exchange address command w = refl
 
 -- a block exchange 5 to 37
 pub block-exchange : (address command : ℕ) (text : List ℕ) → length text ≤ 32
-    → (5 ≤ length (exchangeOf (readBytes address command) (blockBody text))) × (length (exchangeOf (readBytes address command) (blockBody text)) ≤ 37)
+    → (5 ≤ length (exchangeOf (readBytes address command) (blockBody text)))
+    × (length (exchangeOf (readBytes address command) (blockBody text)) ≤ 37)
 block-exchange address command text h =
     let l = reply-length (readBytes address command) (blockBody text) in (omega (arith, l), omega (arith, l))
 
@@ -97,7 +97,9 @@ reply-bytes request body h = bytes-joined body (pecOf (request ++ body) ∷ []) 
 pub byte-misheard : (us vs : List ℕ) (x y : ℕ) (body : List ℕ) → Bytes (us ++ x ∷ vs) → Bytes (us ++ y ∷ vs) → Bytes body → (x ≡ y → ⊥)
     → Right ((us ++ x ∷ vs) ++ replyOf (us ++ y ∷ vs) body) → ⊥
 byte-misheard us vs x y body bx by bb d r =
-    misheard us (vs ++ reply) y x (subst Bytes (regroup y) (bytes-joined (us ++ y ∷ vs) reply by rb)) (subst Bytes (regroup x) (bytes-joined (us ++ x ∷ vs) reply bx rb))
+    misheard us (vs ++ reply) y x
+    (subst Bytes (regroup y) (bytes-joined (us ++ y ∷ vs) reply by rb))
+    (subst Bytes (regroup x) (bytes-joined (us ++ x ∷ vs) reply bx rb))
     (subst Right (regroup y) (exchange-right (us ++ y ∷ vs) body)) (λ e. d (sym e)) (subst Right (regroup x) r)
   where
     reply : List ℕ
@@ -113,21 +115,24 @@ byte-misheard us vs x y body bx by bb d r =
 pub command-misheard : (address sent heard : ℕ) (body : List ℕ) → address < 255 → sent < 256 → heard < 256 → Bytes body → (sent ≡ heard → ⊥)
     → Right (readBytes address sent ++ replyOf (readBytes address heard) body) → ⊥
 command-misheard address sent heard body ha hs hh hb d =
-    byte-misheard (address ∷ []) ((address + 1) ∷ []) sent heard body (omega arith, (hs, (omega arith, tt))) (omega arith, (hh, (omega arith, tt))) hb d
+    byte-misheard (address ∷ []) ((address + 1) ∷ []) sent heard body
+    (omega arith, (hs, (omega arith, tt)))
+    (omega arith, (hh, (omega arith, tt))) hb d
 
 -- two different exchanges of one length are two different right messages: the laws of those hold of them
 pub exchanges : (request body request′ body′ : List ℕ) → Bytes request → Bytes body → Bytes request′ → Bytes body′
     → length (exchangeOf request body) ≡ length (exchangeOf request′ body′) → (exchangeOf request body ≡ exchangeOf request′ body′ → ⊥)
     → Rights (exchangeOf request body) (exchangeOf request′ body′)
 exchanges request body request′ body′ h k h′ k′ l d =
-    ((bytes-joined request _ h (reply-bytes request body k), bytes-joined request′ _ h′ (reply-bytes request′ body′ k′), l), exchange-right request body, exchange-right request′ body′, d)
+    let b = bytes-joined request _ h (reply-bytes request body k) in
+    let b′ = bytes-joined request′ _ h′ (reply-bytes request′ body′ k′) in
+    ((b, b′, l), exchange-right request body, exchange-right request′ body′, d)
 
 -- ---- the PEC of a reply, run over its pieces
 
-pub word-check : (request : List ℕ) (low high : ℕ) → byteStep (bitXor (byteStep (bitXor (pecOf request) low)) high) ≡ pecOf (request ++ low ∷ high ∷ [])
-unfolding pecOf pecFrom
-word-check request low high = join 0 request (low ∷ high ∷ [])
+pub body-check : (request body : List ℕ) → pecFrom (pecOf request) body ≡ pecOf (request ++ body)
+unfolding pecOf
+body-check request body = join 0 request body
 
-pub block-check : (request : List ℕ) (count : ℕ) (text : List ℕ) → pecFrom (byteStep (bitXor (pecOf request) count)) text ≡ pecOf (request ++ count ∷ text)
-unfolding pecOf pecFrom
-block-check request count text = join 0 request (count ∷ text)
+pub block-check : (request : List ℕ) (count : ℕ) (text : List ℕ) → pecFrom (pecFrom (pecOf request) (count ∷ [])) text ≡ pecOf (request ++ count ∷ text)
+block-check request count text = join (pecOf request) (count ∷ []) text ∙ body-check request (count ∷ text)

@@ -24,15 +24,20 @@ use Rattle.frame.proofs.Replies.{ends-right, last-is}
 abbrev first : Bool → Bool → Bool → Request → Request
 first three four five asked = cond three (Refused 3) (cond four (Refused 4) (cond five (Refused 5) asked))
 
+-- what is asked for
 abbrev asked : Bool → List ℕ → Request
 asked read bytes = cond read (Read (getD bytes 1 0)) (writeOf bytes (eqb (length bytes) 5))
+
+-- and that is no refusal
+asked-served : (read : Bool) (bytes : List ℕ) (n : ℕ) → asked read bytes ≡ Refused n → ⊥
+asked-served true bytes n e = let z : _≡_ {A = ℕ} 0 1 = cc in omega arith
+asked-served false bytes n e = let z : _≡_ {A = ℕ} 0 1 = cc in omega arith
 
 lowest : (three four five read : Bool) (bytes : List ℕ) (n : ℕ) → first three four five (asked read bytes) ≡ Refused n → Lowest three four five n
 lowest true four five read bytes n e = inl (cc, refl)
 lowest false true five read bytes n e = inr (inl (cc, refl, refl))
 lowest false false true read bytes n e = inr (inr (cc, refl, refl, refl))
-lowest false false false true bytes n e = let z : _≡_ {A = ℕ} 0 1 = cc in absurd (omega arith)
-lowest false false false false bytes n e = let z : _≡_ {A = ℕ} 0 1 = cc in absurd (omega arith)
+lowest false false false read bytes n e = absurd (asked-served read bytes n e)
 
 refused : (three four five : Bool) (a : Request) (n : ℕ) → Lowest three four five n → first three four five a ≡ Refused n
 refused three four five a n (inl (e, t)) = simp t (ap Refused (sym e))
@@ -71,8 +76,11 @@ pub read-is : (address : ℕ) (read : Bool) (bytes : List ℕ) (command : ℕ)
     → (requestOf address read bytes ≡ Read command) ↔ ((read ≡ true) × (bytes ≡ readBytes address command))
 unfolding requestOf
 read-is address read bytes command =
-    (λ e. let f = free address read bytes (Read command) e (λ n q. let z : _≡_ {A = ℕ} 0 1 = cc in omega arith) in to read bytes (f .0) (f .1), from)
+    (λ e. let f = free address read bytes (Read command) e served in to read bytes (f .0) (f .1), from)
   where
+    served : (n : ℕ) → Read command ≡ Refused n → ⊥
+    served n e = let z : _≡_ {A = ℕ} 0 1 = cc in omega arith
+
     to : (read : Bool) (bytes : List ℕ) → Free address read bytes → asked read bytes ≡ Read command → (read ≡ true) × (bytes ≡ readBytes address command)
     to false bytes f e = absurd (let z : _≡_ {A = ℕ} 0 1 = cc in omega arith)
     to true [] f e = absurd (true≢false (f .0))
@@ -92,8 +100,11 @@ pub write-is : (address : ℕ) (read : Bool) (bytes : List ℕ) (command word : 
     → (requestOf address read bytes ≡ Write command word checked) ↔ ((read ≡ false) × WriteBytes address command word checked bytes)
 unfolding requestOf
 write-is address read bytes command word checked =
-    (λ e. let f = free address read bytes (Write command word checked) e (λ n q. let z : _≡_ {A = ℕ} 0 1 = cc in omega arith) in to read bytes checked (f .0) (f .1), from checked)
+    (λ e. let f = free address read bytes (Write command word checked) e served in to read bytes checked (f .0) (f .1), from checked)
   where
+    served : (n : ℕ) → Write command word checked ≡ Refused n → ⊥
+    served n e = let z : _≡_ {A = ℕ} 0 1 = cc in omega arith
+
     to : (read : Bool) (bytes : List ℕ) (checked : Bool) → Free address read bytes → asked read bytes ≡ Write command word checked
         → (read ≡ false) × WriteBytes address command word checked bytes
     to true bytes checked f e = absurd (let z : _≡_ {A = ℕ} 0 1 = cc in omega arith)
@@ -131,4 +142,7 @@ altered address sent heard p r l n m = go (endsInPec heard) refl (foreign addres
         → (requestOf address false heard ≡ Refused 3) ⊎ (requestOf address false heard ≡ Refused 5)
     go true e three t = absurd (caught sent heard p r (omega (arith, l)) n m (omega (arith, five), e))
     go false e true t = inl (refused-is address false heard 3 .1 (inl (refl, t)))
-    go false e false t = inr (refused-is address false heard 5 .1 (inr (inr (refl, t, simp (ne-eqb (length heard) 4 (λ q. omega (arith, five)), eq-eqb _ _ five), simp (eq-eqb _ _ five, e)))))
+    go false e false t =
+        let size = eq-eqb _ _ five in
+        let four = ne-eqb (length heard) 4 (λ q. omega (arith, five)) in
+        inr (refused-is address false heard 5 .1 (inr (inr (refl, t, simp (four, size), simp (size, e)))))

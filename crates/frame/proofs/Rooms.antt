@@ -12,7 +12,9 @@ use Rattle.frame.specs.Broadcasts.{messageOf}
 
 -- stores from the first place on put the bytes at the front
 pub front : (bytes room : List ℕ) → length bytes ≤ length room → sets room 0 bytes ≡ placed bytes room
-front bytes room h = let e : 0 + length bytes ≡ length bytes = omega arith in sets-eq bytes room 0 (omega arith) ∙ ap (λ (n : ℕ). bytes ++ drop n room) e
+front bytes room h =
+    let e : 0 + length bytes ≡ length bytes = omega arith in
+    sets-eq bytes room 0 (omega arith) ∙ ap (λ (n : ℕ). bytes ++ drop n room) e
 
 -- the room keeps its length
 pub placed-length : (bytes room : List ℕ) → length bytes ≤ length room → length (placed bytes room) ≡ length room

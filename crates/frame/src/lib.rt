@@ -65,13 +65,13 @@ fn write_of(bytes: &[u8], checked: bool) -> Request
 // A word reply at the front of the room; its length.
 pub fn put_word(room: &mut [u8], request: &[u8], w: u16) -> usize
     requires { ⌜ 3 ≤ length (now room) ⌝ }
-    ensures length { λ r. ⌜ r ≡ length (replyOf (now (request .entry)) (wordBody w)) ⌝ }
+    ensures result { λ r. ⌜ r ≡ length (replyOf (now (request .entry)) (wordBody w)) ⌝ }
     ensures memory { λ r. ⌜ now (room .exit) ≡ placed (replyOf (now (request .entry)) (wordBody w)) (now (room .entry)) ⌝ }
 {
     let low = words::low(w);
     let high = words::high(w);
     let start = pec::pec(request);
-    let check = pec::pec_step(pec::pec_step(start, low), high);
+    let check = pec::pec_from(start, &[low, high]);
     room[0] = low;
     room[1] = high;
     room[2] = check;
@@ -81,14 +81,14 @@ pub fn put_word(room: &mut [u8], request: &[u8], w: u16) -> usize
 // A block reply at the front of the room; its length.
 pub fn put_block(room: &mut [u8], request: &[u8], text: &[u8]) -> usize
     requires { ⌜ (length (now text) ≤ 32) × (length (now text) + 2 ≤ length (now room)) ⌝ }
-    ensures length { λ r. ⌜ r ≡ length (replyOf (now (request .entry)) (blockBody (now (text .entry)))) ⌝ }
+    ensures result { λ r. ⌜ r ≡ length (replyOf (now (request .entry)) (blockBody (now (text .entry)))) ⌝ }
     ensures memory { λ r. ⌜ now (room .exit) ≡ placed (replyOf (now (request .entry)) (blockBody (now (text .entry)))) (now (room .entry)) ⌝ }
 {
     let n = text.len();
     let last = n + 1;
     let count = n as u8;
     let start = pec::pec(request);
-    let check = pec::pec_from(pec::pec_step(start, count), text);
+    let check = pec::pec_from(pec::pec_from(start, &[count]), text);
     room[0] = count;
     room[last] = check;
     bytes::copy(text, &mut room[1..]);
@@ -98,7 +98,7 @@ pub fn put_block(room: &mut [u8], request: &[u8], text: &[u8]) -> usize
 // A broadcast message from the place at on; the place after it.
 pub fn put_message(room: &mut [u8], at: usize, address: u8, command: u8, word: u16) -> usize
     requires { ⌜ at + 4 ≤ length (now room) ⌝ }
-    ensures length { λ r. ⌜ r ≡ at + length (messageOf address command word) ⌝ }
+    ensures result { λ r. ⌜ r ≡ at + length (messageOf address command word) ⌝ }
     ensures memory { λ r. ⌜ now (room .exit) ≡ sets (now (room .entry)) at (messageOf address command word) ⌝ }
 {
     let low = words::low(word);

@@ -1,3 +1,4 @@
+pub mod Bounds
 pub mod Join
 pub mod Loops
 pub mod Table

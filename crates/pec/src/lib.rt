@@ -1,10 +1,15 @@
 // SMBus packet error codes: CRC-8 of x^8 + x^2 + x + 1, start 0, high bit first.
 ghost use mathlib.Core.Path.{_≡_};
 ghost use Prim.Native.Nat.{_≤_};
-ghost use lib.Bits.{bitXor};
-ghost use lib.ListN.{length};
-ghost use Rattle.pec.specs.Pec.{byteStep, pecFrom, pecOf};
+ghost use lib.ListN.{length, getD};
+ghost use Rattle.pec.specs.Pec.{pecFrom, pecOf};
 ghost use Rattle.pec.specs.Messages.{exchangeCheck, bitsApart, bitComparison};
+
+// The most bytes of an exchange: 16, command, 17, count, 32 bytes and PEC.
+const LONGEST: usize = 37;
+
+// The answer to a message too short or too long, or to two of unequal lengths.
+const REFUSED: u8 = 15;
 
 // The remainder of each byte.
 const TABLE: [u8; 256] = *b"\x00\x07\x0e\x09\x1c\x1b\x12\x15\x38\x3f\x36\x31\x24\x23\x2a\x2d\
@@ -24,21 +29,22 @@ const TABLE: [u8; 256] = *b"\x00\x07\x0e\x09\x1c\x1b\x12\x15\x38\x3f\x36\x31\x24
     \xae\xa9\xa0\xa7\xb2\xb5\xbc\xbb\x96\x91\x98\x9f\x8a\x8d\x84\x83\
     \xde\xd9\xd0\xd7\xc2\xc5\xcc\xcb\xe6\xe1\xe8\xef\xfa\xfd\xf4\xf3";
 
-// What stands after one more byte.
-pub fn pec_step(acc: u8, b: u8) -> u8
-    ensures { λ r. ⌜ r ≡ byteStep (bitXor acc b) ⌝ }
+fn entry(table: &[u8; 256], b: u8) -> u8
+    ensures { λ r. ⌜ r ≡ getD (now (table .entry)) b 0 ⌝ }
 {
-    TABLE[(acc ^ b) as usize]
+    table[b as usize]
 }
 
 // What stands after more bytes: so a PEC runs over several pieces that are not joined.
 pub fn pec_from(start: u8, s: &[u8]) -> u8
     ensures { λ r. ⌜ r ≡ pecFrom start (now (s .entry)) ⌝ }
 {
+    // Copied once: a constant array is made anew wherever it is read.
+    let table = TABLE;
     let mut acc = start;
     let mut i = 0;
     while i < s.len() {
-        acc = pec_step(acc, s[i]);
+        acc = entry(&table, acc ^ s[i]);
         i += 1;
     }
     acc
@@ -64,13 +70,13 @@ pub fn exchange_check(s: &[u8]) -> Checked
     let n = s.len();
     if n < 2 {
         return Checked {
-            answer: 15,
+            answer: REFUSED,
             right: false,
         };
     }
-    if n > 37 {
+    if n > LONGEST {
         return Checked {
-            answer: 15,
+            answer: REFUSED,
             right: false,
         };
     }
@@ -95,13 +101,13 @@ pub fn bit_comparison(a: &[u8], b: &[u8]) -> Compared
     let n = a.len();
     if n != b.len() {
         return Compared {
-            answer: 15,
+            answer: REFUSED,
             bits: 0,
         };
     }
-    if n > 37 {
+    if n > LONGEST {
         return Compared {
-            answer: 15,
+            answer: REFUSED,
             bits: 0,
         };
     }
@@ -117,10 +123,10 @@ fn bits_apart(a: &[u8], b: &[u8]) -> u32
     ensures { λ r. ⌜ r ≡ bitsApart (now (a .entry)) (now (b .entry)) ⌝ }
 {
     let mut sum: u32 = 0;
-    let mut i = 0;
-    while i < a.len() {
-        sum += u8::count_ones(a[i] ^ b[i]);
-        i += 1;
+    let mut at = 0;
+    while at < a.len() {
+        sum += u8::count_ones(a[at] ^ b[at]);
+        at += 1;
     }
     sum
 }

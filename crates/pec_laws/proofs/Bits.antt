@@ -3,14 +3,13 @@
 use mathlib.Core.Path.{_≡_, refl, sym, ap, _∙_}
 use mathlib.Core.Bool.{Bool, true, false}
 use mathlib.Core.List.{List, [], _∷_, _++_}
-use Prim.Native.Nat.{ℕ, suc, _+_, _*_, _/_, _%_, _<_}
-use native.Mathlib.Nat.{mod-lt, zero-lt-suc}
+use Prim.Native.Nat.{ℕ, suc, _+_, _<_}
 use native.Mathlib.Omega.{arith}
-use lib.Dec.{lit<}
 use lib.ListN.{length}
-use lib.Bits.{bitXor, xor-lt, xor-zero-r}
+use lib.Bits.{bitXor, xor-zero-r}
 use lib.Count.{ones}
 use Rattle.pec.specs.Pec.{bitStep, byteStep, pecFrom}
+use Rattle.pec.proofs.Bounds.{bitStep-lt}
 use Rattle.pec_laws.specs.Places.{Bytes, bit, bitsOf}
 use Rattle.pec_laws.proofs.Xor.{bitStep-xor, byteStep-xor, xor-assoc}
 use Rattle.pec_laws.proofs.Every.{same-each}
@@ -35,10 +34,6 @@ abbrev pub byte : ℕ → List Bool
 byte x = bit 128 x ∷ bit 64 x ∷ bit 32 x ∷ bit 16 x ∷ bit 8 x ∷ bit 4 x ∷ bit 2 x ∷ bit 1 x ∷ []
 
 -- ---- bounds
-
-pub bitStep-lt : (s : ℕ) → bitStep s < 256
-unfolding bitStep
-bitStep-lt s = xor-lt 8 (s * 2 % 256) (s / 128 % 2 * 7) (mod-lt (s * 2) (lit< tt)) (omega (arith, mod-lt (s / 128) (zero-lt-suc 1)))
 
 pub push-lt : (b : Bool) (s : ℕ) → push b s < 256
 push-lt true s = bitStep-lt (bitXor s 128)

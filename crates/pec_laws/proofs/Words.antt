@@ -12,10 +12,11 @@ use lib.ListN.{length, getD}
 use lib.Bits.{bitXor, xor-lt}
 use lib.Count.{ones}
 use Rattle.pec.specs.Pec.{bitStep}
+use Rattle.pec.proofs.Bounds.{bitStep-lt}
 use Rattle.pec_laws.proofs.Xor.{xor-none}
 use Rattle.pec_laws.proofs.Every.{and-left, and-right, same-each, eq→eqb}
 use Rattle.pec_laws.proofs.Orbit.{run, bitStep-none, meets}
-use Rattle.pec_laws.proofs.Bits.{push, push-lt, bitStep-lt, crc, weight}
+use Rattle.pec_laws.proofs.Bits.{push, push-lt, crc, weight}
 
 -- ---- an even number of bits
 

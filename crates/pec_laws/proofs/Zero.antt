@@ -12,25 +12,12 @@ use lib.Seq.{split-at}
 use lib.Bits.{bitXor, xor-lt, xor-self, xor-comm}
 use Rattle.pec.specs.Pec.{bitStep, byteStep, pecFrom, pecOf}
 use Rattle.pec.specs.Messages.{endsInPec}
+use Rattle.pec.proofs.Bounds.{bitStep-lt, byteStep-lt, pecFrom-lt, pec-lt}
 use Rattle.pec.proofs.Join.{join}
 use Rattle.pec_laws.specs.Places.{Bytes}
 use Rattle.pec_laws.specs.Faults.{RightIsNone}
 use Rattle.pec_laws.proofs.Xor.{xor-none, xor-cancel, byteStep-xor}
 use Rattle.pec_laws.proofs.Orbit.{bitStep-none}
-use Rattle.pec_laws.proofs.Bits.{bitStep-lt}
-
-byteStep-lt : (s : ℕ) → byteStep s < 256
-unfolding byteStep
-byteStep-lt s = bitStep-lt _
-
-pecFrom-lt : (s : ℕ) (xs : List ℕ) → s < 256 → pecFrom s xs < 256
-unfolding pecFrom
-pecFrom-lt s [] h = h
-pecFrom-lt s (x ∷ xs) h = pecFrom-lt (byteStep (bitXor s x)) xs (byteStep-lt (bitXor s x))
-
-pub pec-lt : (xs : List ℕ) → pecOf xs < 256
-unfolding pecOf
-pec-lt xs = pecFrom-lt 0 xs (lit< tt)
 
 byteStep-none : (s : ℕ) → s < 256 → byteStep s ≡ 0 → s ≡ 0
 unfolding byteStep
@@ -62,6 +49,11 @@ at-byte : (xs : List ℕ) → Bytes xs → (i : ℕ) → getD xs i 0 < 256
 at-byte [] h i = lit< tt
 at-byte (x ∷ xs) h zero = h .0
 at-byte (x ∷ xs) h (suc i) = at-byte xs (h .1) i
+
+-- what is known of a lent slice, that each of its elements is a byte, as the theorems take it
+pub all-bytes : (xs : List ℕ) → ((i : ℕ) → getD xs i 0 < 256) → Bytes xs
+all-bytes [] h = tt
+all-bytes (x ∷ xs) h = (h zero, all-bytes xs (λ i. h (suc i)))
 
 pub right-is-none : RightIsNone
 unfolding endsInPec

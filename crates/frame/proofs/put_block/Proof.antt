@@ -7,10 +7,9 @@ use native.Mathlib.Omega.{arith}
 use native.Mathlib.Numerals.{add-one}
 use borrow.Author.Needs.{needs}
 use borrow.Rule.Slice.PartMut.{putMid, same-len-mid}
-use lib.Bits.{bitXor}
 use lib.ListN.{length, set, take, drop, length-append, length-set, length-take, length-drop}
 use lib.Seq.{drop-cons, getD-set-same, drop-set-lt, drop-length, take-length}
-use Rattle.pec.specs.Pec.{byteStep, pecFrom, pecOf}
+use Rattle.pec.specs.Pec.{pecFrom, pecOf}
 use Rattle.frame.specs.Transactions.{blockBody, replyOf, placed}
 use Rattle.frame.proofs.Replies.{reply-length, block-check}
 use Rattle.frame.proofs.put_block.Statement.{statement}
@@ -59,11 +58,14 @@ cast-count c = search needs
 pec-requires : tie.Need-pec-requires
 pec-requires c κs = search needs
 
-pec-step-requires : tie.Need-pec-step-requires
-pec-step-requires c κs = search needs
+slice-aggregate-pec-from : tie.Need-slice-aggregate-pec-from
+slice-aggregate-pec-from c = search needs
 
 pec-from-requires : tie.Need-pec-from-requires
 pec-from-requires c κs = search needs
+
+pec-from-requires-2 : tie.Need-pec-from-requires-2
+pec-from-requires-2 c κs = search needs
 
 slice-write-room : tie.Need-slice-write-room
 slice-write-room c = search needs
@@ -88,22 +90,22 @@ add-result c = search needs
 
 same-length : tie.Need-same-length
 same-length c =
-    let a = c .before .before .before .before .before .before .before .before .before .before .args in
-    let xs = stored (a .room .now) (a .text .now) (c .before .before .before .before .pec-from .result) in
+    let b = c .before .before .before .before in
+    let a = b .before .before .before .before .before .before .before .args in
+    let xs = stored (a .room .now) (a .text .now) (b .pec-from2 .result) in
     same-len-mid 1 (length xs - 1) xs (c .before .before .copy .last .1 .0) (c .before .before .copy .kept .1 .0) ∙ simp length-set
 
 returns : tie.Need-returns
 returns c =
-    let a = c .before .before .before .before .before .before .before .before .before .before .args in
-    let xs = stored (a .room .now) (a .text .now) (c .before .before .before .before .pec-from .result) in
-    let start = c .before .before .before .before .before .before .pec .ensures in
-    let count = c .before .before .before .before .before .pec-step .ensures ∙ ap (λ (p : ℕ). byteStep (bitXor p (length (a .text .now)))) start in
-    let check =
-    c .before .before .before .before .pec-from .ensures ∙ ap (λ (p : ℕ). pecFrom p (a .text .now)) count
-    ∙ block-check (a .request .now) (length (a .text .now)) (a .text .now) in (
+    let b = c .before .before .before .before in
+    let a = b .before .before .before .before .before .before .before .args in
+    let n = length (a .text .now) in
+    let xs = stored (a .room .now) (a .text .now) (b .pec-from2 .result) in
+    let count = b .before .pec-from .ensures ∙ ap (λ (p : ℕ). pecFrom p (n ∷ [])) (b .before .before .before .pec .ensures) in
+    let check = b .pec-from2 .ensures ∙ ap (λ (p : ℕ). pecFrom p (a .text .now)) count ∙ block-check (a .request .now) n (a .text .now) in (
       omega (arith, reply-length (a .request .now) (blockBody (a .text .now))),
       ap (λ (ys : List ℕ). putMid 1 (length xs - 1) xs ys) (c .before .before .copy .ensures .1)
-          ∙ whole (a .room .now) (a .request .now) (a .text .now) (c .before .before .before .before .pec-from .result) check (omega arith),
+          ∙ whole (a .room .now) (a .request .now) (a .text .now) (b .pec-from2 .result) check (omega arith),
     )
 
 pub put-block-spec : {M : Type 1} → statement M
@@ -113,8 +115,9 @@ put-block-spec =
     add-last
     cast-count
     pec-requires
-    pec-step-requires
+    slice-aggregate-pec-from
     pec-from-requires
+    pec-from-requires-2
     slice-write-room
     slice-write-room-2
     sub-copy

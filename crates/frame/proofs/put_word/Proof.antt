@@ -5,7 +5,7 @@ use native.Mathlib.Omega.{arith}
 use borrow.Author.Needs.{needs}
 use lib.ListN.{length-set}
 use Rattle.frame.specs.Transactions.{wordBody, replyOf}
-use Rattle.frame.proofs.Replies.{word-check}
+use Rattle.frame.proofs.Replies.{body-check}
 use Rattle.frame.proofs.Rooms.{front}
 use Rattle.frame.proofs.put_word.Statement.{statement}
 use Rattle.frame.proofs.put_word.Tie as tie
@@ -19,11 +19,11 @@ high-requires c κs = search needs
 pec-requires : tie.Need-pec-requires
 pec-requires c κs = search needs
 
-pec-step-requires : tie.Need-pec-step-requires
-pec-step-requires c κs = search needs
+slice-aggregate-pec-from : tie.Need-slice-aggregate-pec-from
+slice-aggregate-pec-from c = search needs
 
-pec-step-requires-2 : tie.Need-pec-step-requires-2
-pec-step-requires-2 c κs = search needs
+pec-from-requires : tie.Need-pec-from-requires
+pec-from-requires c κs = search needs
 
 slice-write-room : tie.Need-slice-write-room
 slice-write-room c = search needs
@@ -40,9 +40,11 @@ same-length c = search needs
 returns : tie.Need-returns
 unfolding replyOf
 returns c =
-    let a = c .before .before .before .before .before .before .before .args in (
+    let a = c .before .before .before .before .before .before .before .args in
+    let low = c .before .before .before .before .low .ensures in
+    let high = c .before .before .before .high .ensures in (
       refl,
-      simp (c .pec-step2 .ensures, c .before .pec-step .ensures, c .before .before .pec .ensures, c .before .before .before .high .ensures, c .before .before .before .before .low .ensures, word-check)
+      simp (c .pec-from .ensures, c .before .before .pec .ensures, high, low, body-check)
           (front (replyOf (a .request .now) (wordBody (a .w))) (a .room .now) (omega arith)),
     )
 
@@ -53,8 +55,8 @@ put-word-spec =
     low-requires
     high-requires
     pec-requires
-    pec-step-requires
-    pec-step-requires-2
+    slice-aggregate-pec-from
+    pec-from-requires
     slice-write-room
     slice-write-room-2
     slice-write-room-3

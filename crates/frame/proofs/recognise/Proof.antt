@@ -27,7 +27,10 @@ returns-3 : tie.Need-returns-3
 unfolding requestOf
 returns-3 c =
     let b = c .before in
-    simp (ne-eqb _ _ (b .before .before .before .if1 .left), eq-eqb _ _ (b .before .if2 .left), b .if3 .taken, ne-eqb _ _ (c .if4 .taken))
+    let some = ne-eqb _ _ (b .before .before .before .if1 .left) in
+    let own = eq-eqb _ _ (b .before .if2 .left) in
+    let mark = b .if3 .taken in
+    simp (some, own, mark, ne-eqb _ _ (c .if4 .taken))
 
 shared-slice-read-if5 : tie.Need-shared-slice-read-if5
 shared-slice-read-if5 c = search needs
@@ -39,7 +42,10 @@ returns-4 : tie.Need-returns-4
 unfolding requestOf
 returns-4 c =
     let b = c .before .before .before in
-    simp (ne-eqb _ _ (b .before .before .before .if1 .left), eq-eqb _ _ (b .before .if2 .left), b .if3 .taken, eq-eqb _ _ (c .before .before .if4 .left), ne-eqb _ _ (c .if5 .taken))
+    let some = ne-eqb _ _ (b .before .before .before .if1 .left) in
+    let own = eq-eqb _ _ (b .before .if2 .left) in
+    let mark = b .if3 .taken in
+    simp (some, own, mark, eq-eqb _ _ (c .before .before .if4 .left), ne-eqb _ _ (c .if5 .taken))
 
 shared-slice-read-t10 : tie.Need-shared-slice-read-t10
 shared-slice-read-t10 c = search needs
@@ -48,7 +54,10 @@ returns-5 : tie.Need-returns-5
 unfolding requestOf
 returns-5 c =
     let b = c .before .before .before .before in
-    simp (ne-eqb _ _ (b .before .before .before .if1 .left), eq-eqb _ _ (b .before .if2 .left), b .if3 .taken, eq-eqb _ _ (c .before .before .before .if4 .left), eq-eqb _ _ (c .before .if5 .left))
+    let some = ne-eqb _ _ (b .before .before .before .if1 .left) in
+    let own = eq-eqb _ _ (b .before .if2 .left) in
+    let mark = b .if3 .taken in
+    simp (some, own, mark, eq-eqb _ _ (c .before .before .before .if4 .left), eq-eqb _ _ (c .before .if5 .left))
 
 write-of-requires : tie.Need-write-of-requires
 write-of-requires c κs = search needs
@@ -57,14 +66,21 @@ returns-6 : tie.Need-returns-6
 unfolding requestOf
 returns-6 c =
     let b = c .before .before in
-    simp
-    (ne-eqb _ _ (b .before .before .before .if1 .left), eq-eqb _ _ (b .before .if2 .left), b .if3 .left, eq-eqb _ _ (c .before .if6 .taken), ne-eqb (length (c .before .before .before .before .before .before .before .args .bytes .now)) 5 (λ e. omega arith), c .write-of .ensures)
+    let some = ne-eqb _ _ (b .before .before .before .if1 .left) in
+    let own = eq-eqb _ _ (b .before .if2 .left) in
+    let mark = b .if3 .left in
+    let four = eq-eqb _ _ (c .before .if6 .taken) in
+    let five = ne-eqb (length (b .before .before .before .before .before .args .bytes .now)) 5 (λ e. omega arith) in
+    simp (some, own, mark, four, five, c .write-of .ensures)
 
 returns-7 : tie.Need-returns-7
 unfolding requestOf
 returns-7 c =
     let b = c .before .before in
-    simp (ne-eqb _ _ (b .before .before .before .if1 .left), eq-eqb _ _ (b .before .if2 .left), b .if3 .left, ne-eqb _ _ (c .before .if6 .left), ne-eqb _ _ (c .if7 .taken))
+    let some = ne-eqb _ _ (b .before .before .before .if1 .left) in
+    let own = eq-eqb _ _ (b .before .if2 .left) in
+    let mark = b .if3 .left in
+    simp (some, own, mark, ne-eqb _ _ (c .before .if6 .left), ne-eqb _ _ (c .if7 .taken))
 
 shared-slice-read-if8 : tie.Need-shared-slice-read-if8
 shared-slice-read-if8 c = search needs
@@ -79,9 +95,13 @@ returns-8 : tie.Need-returns-8
 unfolding requestOf endsInPec
 returns-8 c =
     let b = c .before .before .before .before .before .before in
-    let e : length (c .before .before .before .before .before .before .before .before .before .before .before .args .bytes .now) - 1 ≡ 4 = omega arith in
-    simp
-    (ne-eqb _ _ (b .before .before .before .if1 .left), eq-eqb _ _ (b .before .if2 .left), b .if3 .left, ne-eqb _ _ (c .before .before .before .before .before .if6 .left), eq-eqb _ _ (c .before .before .before .before .if7 .left), e, ← c .before .pec .ensures, ne-eqb _ _ (c .if8 .taken))
+    let some = ne-eqb _ _ (b .before .before .before .if1 .left) in
+    let own = eq-eqb _ _ (b .before .if2 .left) in
+    let mark = b .if3 .left in
+    let four = ne-eqb _ _ (c .before .before .before .before .before .if6 .left) in
+    let five = eq-eqb _ _ (c .before .before .before .before .if7 .left) in
+    let last : length (b .before .before .before .before .before .args .bytes .now) - 1 ≡ 4 = omega arith in
+    simp (some, own, mark, four, five, last, ← c .before .pec .ensures, ne-eqb _ _ (c .if8 .taken))
 
 write-of-requires-2 : tie.Need-write-of-requires-2
 write-of-requires-2 c κs = search needs
@@ -90,9 +110,13 @@ returns-9 : tie.Need-returns-9
 unfolding requestOf endsInPec
 returns-9 c =
     let b = c .before .before .before .before .before .before .before in
-    let e : length (c .before .before .before .before .before .before .before .before .before .before .before .before .args .bytes .now) - 1 ≡ 4 = omega arith in
-    simp
-    (c .write-of2 .ensures, ne-eqb _ _ (b .before .before .before .if1 .left), eq-eqb _ _ (b .before .if2 .left), b .if3 .left, ne-eqb _ _ (c .before .before .before .before .before .before .if6 .left), eq-eqb _ _ (c .before .before .before .before .before .if7 .left), e, ← c .before .before .pec .ensures, eq-eqb _ _ (c .before .if8 .left))
+    let some = ne-eqb _ _ (b .before .before .before .if1 .left) in
+    let own = eq-eqb _ _ (b .before .if2 .left) in
+    let mark = b .if3 .left in
+    let four = ne-eqb _ _ (c .before .before .before .before .before .before .if6 .left) in
+    let five = eq-eqb _ _ (c .before .before .before .before .before .if7 .left) in
+    let last : length (b .before .before .before .before .before .args .bytes .now) - 1 ≡ 4 = omega arith in
+    simp (c .write-of2 .ensures, some, own, mark, four, five, last, ← c .before .before .pec .ensures, eq-eqb _ _ (c .before .if8 .left))
 
 pub recognise-spec : {M : Type 1} → statement M
 recognise-spec =

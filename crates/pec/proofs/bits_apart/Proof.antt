@@ -13,10 +13,10 @@ use Rattle.pec.proofs.bits_apart.Statement.{statement}
 use Rattle.pec.proofs.bits_apart.Tie as tie
 
 abbrev Inv-loop : tie.InvT-loop
-Inv-loop a b sum₀ i₀ sum i = (i ≤ length a) × (sum + bitsApart (drop i a) (drop i b) ≡ bitsApart a b) × (sum ≤ 8 * i)
+Inv-loop a b sum₀ at₀ sum at = (at ≤ length a) × (sum + bitsApart (drop at a) (drop at b) ≡ bitsApart a b) × (sum ≤ 8 * at)
 
 abbrev μ-loop : tie.MeasureT-loop
-μ-loop a b sum₀ i₀ sum i = length a - i
+μ-loop a b sum₀ at₀ sum at = length a - at
 
 loop-holds : tie.Need-loop-holds Inv-loop μ-loop
 loop-holds c = omega arith
@@ -29,27 +29,27 @@ shared-slice-read-sum-2 c = search needs
 
 -- a turn adds at most eight
 at-most : (c : tie.After-shared-slice-known2 Inv-loop μ-loop)
-    → ones (bitXor (getD (c .before .before .before .before .args .a .now) (c .before .before .before .loop .i) 0) (getD (c .before .before .before .before .args .b .now) (c .before .before .before .loop .i) 0)) ≤ 8
+    → ones (bitXor (getD (c .before .before .before .before .args .a .now) (c .before .before .before .loop .at) 0) (getD (c .before .before .before .before .args .b .now) (c .before .before .before .loop .at) 0)) ≤ 8
 at-most c =
-    apart-le _ _ (c .before .shared-slice-known .given (c .before .before .before .loop .i) .fits)
-    (c .shared-slice-known2 .given (c .before .before .before .loop .i) .fits)
+    apart-le _ _ (c .before .shared-slice-known .given (c .before .before .before .loop .at) .fits)
+    (c .shared-slice-known2 .given (c .before .before .before .loop .at) .fits)
 
 add-sum : tie.Need-add-sum Inv-loop μ-loop
 add-sum c = omega (arith, at-most c)
 
-add-i : tie.Need-add-i Inv-loop μ-loop
-add-i c = search needs
+add-at : tie.Need-add-at Inv-loop μ-loop
+add-at c = search needs
 
 loop-less : tie.Need-loop-less Inv-loop μ-loop
 loop-less c = search needs
 
 loop-again : tie.Need-loop-again Inv-loop μ-loop
 loop-again c =
-    let n = apart-next (c .before .before .before .before .args .a .now) (c .before .before .before .before .args .b .now) (c .before .before .before .loop .i) (omega arith) (omega arith) in
+    let n = apart-next (c .before .before .before .before .args .a .now) (c .before .before .before .before .args .b .now) (c .before .before .before .loop .at) (omega arith) (omega arith) in
     (omega arith, omega (arith, n), omega (arith, at-most c))
 
 returns : tie.Need-returns Inv-loop μ-loop
-returns c = omega (arith, apart-end (c .before .before .args .a .now) (c .before .before .args .b .now) (c .before .loop .i) (omega arith))
+returns c = omega (arith, apart-end (c .before .before .args .a .now) (c .before .before .args .b .now) (c .before .loop .at) (omega arith))
 
 pub bits-apart-spec : {M : Type 1} → statement M
 bits-apart-spec =
@@ -61,7 +61,7 @@ bits-apart-spec =
     shared-slice-read-sum
     shared-slice-read-sum-2
     add-sum
-    add-i
+    add-at
     loop-less
     loop-again
     returns)

@@ -1,29 +1,33 @@
--- `pec::pec_from` meets its contract. The loop's invariant: what is left of the message takes the PEC so far to that of the whole.
--- The measure is what is left of the length. Assumes nothing.
-use mathlib.Core.Path.{_≡_, refl}
-use Prim.Native.Nat.{_≤_, _-_}
+-- `pec::pec_from` meets its contract. The table's rule: antt computes the list of the 256 byte steps, and it is the table.
+-- The loop's invariant: what is left of the message takes the PEC so far to that of the whole. The measure is what is left of the length.
+-- Assumes nothing.
+use mathlib.Core.Path.{_≡_, refl, sym, _∙_, subst}
+use Prim.Native.Nat.{ℕ, _≤_, _-_, _<_}
 use native.Mathlib.Omega.{arith}
 use borrow.Author.Needs.{needs}
-use lib.ListN.{length, drop}
-use Rattle.pec.specs.Pec.{pecFrom}
+use lib.Bits.{bitXor, xor-lt}
+use lib.ListN.{length, getD, drop}
+use Rattle.pec.specs.Pec.{bitStep, byteStep, pecFrom}
+use Rattle.pec.proofs.Bounds.{byteStep-lt}
 use Rattle.pec.proofs.Loops.{pec-next, pec-end}
+use Rattle.pec.proofs.Table.{list-at}
 use Rattle.pec.proofs.pec_from.Statement.{statement}
 use Rattle.pec.proofs.pec_from.Tie as tie
 
 abbrev Inv-loop : tie.InvT-loop
-Inv-loop start s acc₀ i₀ acc i = (i ≤ length s) × (pecFrom acc (drop i s) ≡ pecFrom start s)
+Inv-loop start s table acc₀ i₀ acc i = (i ≤ length s) × (pecFrom acc (drop i s) ≡ pecFrom start s) × (acc < 256)
 
 abbrev μ-loop : tie.MeasureT-loop
-μ-loop start s acc₀ i₀ acc i = length s - i
+μ-loop start s table acc₀ i₀ acc i = length s - i
 
 loop-holds : tie.Need-loop-holds Inv-loop μ-loop
-loop-holds c = (omega arith, refl)
+loop-holds c = (omega arith, refl, search needs)
 
-shared-slice-read-pec-step : tie.Need-shared-slice-read-pec-step Inv-loop μ-loop
-shared-slice-read-pec-step c = search needs
+shared-slice-read-entry : tie.Need-shared-slice-read-entry Inv-loop μ-loop
+shared-slice-read-entry c = search needs
 
-pec-step-requires : tie.Need-pec-step-requires Inv-loop μ-loop
-pec-step-requires c κs = search needs
+entry-requires : tie.Need-entry-requires Inv-loop μ-loop
+entry-requires c κs = search needs
 
 add-i : tie.Need-add-i Inv-loop μ-loop
 add-i c = search needs
@@ -31,9 +35,22 @@ add-i c = search needs
 loop-less : tie.Need-loop-less Inv-loop μ-loop
 loop-less c = search needs
 
+stepped : (c : tie.After-entry Inv-loop μ-loop)
+    → let acc = c .before .before .before .before .loop .acc in
+    let b = getD (c .before .before .before .before .before .before .args .s .now) (c .before .before .before .before .loop .i) 0 in
+    c .entry .result ≡ byteStep (bitXor acc b)
+unfolding byteStep bitStep
+stepped c =
+    let acc = c .before .before .before .before .loop .acc in
+    let b = getD (c .before .before .before .before .before .before .args .s .now) (c .before .before .before .before .loop .i) 0 in
+    let acc-fits : acc < 256 = omega arith in
+    let b-fits : b < 256 = c .before .shared-slice-known2 .given (c .before .before .before .before .loop .i) .fits in
+    c .entry .ensures ∙ list-at byteStep 256 (bitXor acc b) (xor-lt 8 acc b acc-fits b-fits)
+
 loop-again : tie.Need-loop-again Inv-loop μ-loop
 loop-again c =
-    (search needs, pec-next _ (c .before .before .before .loop .i) (c .before .before .before .loop .acc) _ _ (search needs) (c .pec-step .ensures) (c .before .before .before .loop .inv .1))
+    let at = c .before .before .before .before .loop in
+    (search needs, pec-next _ (at .i) (at .acc) _ _ (search needs) (stepped c) (at .inv .1), subst (λ (n : ℕ). n < 256) (sym (stepped c)) (byteStep-lt _))
 
 returns : tie.Need-returns Inv-loop μ-loop
 returns c = pec-end _ (c .before .loop .i) _ _ (search needs) (c .before .loop .inv .1)
@@ -45,8 +62,8 @@ pec-from-spec =
     Inv-loop
     μ-loop
     loop-holds
-    shared-slice-read-pec-step
-    pec-step-requires
+    shared-slice-read-entry
+    entry-requires
     add-i
     loop-less
     loop-again
