@@ -70,6 +70,7 @@ fn code_after(answer: u8, before: u8) -> u8
     }
 }
 
+// The answer, the state with the error code that it leaves, and the number of reply bytes.
 fn answered(s: State, answer: u8, pack: Pack, length: usize) -> Transacted
     ensures { λ r. ⌜ r ≡ outcome s answer pack length ⌝ }
 {
@@ -103,6 +104,7 @@ fn word_answer(command: u8, power: bool) -> u8
     0
 }
 
+// A word read that is served, with answer 0 or 10.
 fn serve_word(s: State, answer: u8, command: u8, bytes: &[u8], room: &mut [u8]) -> Transacted
     requires { ⌜ (soundOf s ≡ true) × (34 ≤ length (now room)) ⌝ }
     ensures result { λ r. ⌜ r ≡ outcome s answer (s .pack) (length (replyOf (now (bytes .entry)) (wordBody (wordOf s command)))) ⌝ }
@@ -113,6 +115,7 @@ fn serve_word(s: State, answer: u8, command: u8, bytes: &[u8], room: &mut [u8]) 
     unchanged(s, answer, length)
 }
 
+// A block read: 9 where a sheet is bad.
 fn serve_block<'a>(
     s: State,
     service: &'a [u8],
@@ -134,6 +137,7 @@ fn serve_block<'a>(
     unchanged(s, 0, length)
 }
 
+// A read, by its command's row.
 fn serve_read<'a>(
     s: State,
     service: &'a [u8],
@@ -158,6 +162,7 @@ fn serve_read<'a>(
     }
 }
 
+// What the host wrote, after one more write.
 fn host_written(h: Host, command: u8, word: u16) -> Host
     ensures { λ r. ⌜ r ≡ hostWritten h command word ⌝ }
 {
@@ -189,12 +194,14 @@ fn host_written(h: Host, command: u8, word: u16) -> Host
     }
 }
 
+// One of two numbers, so that the caller has no branch.
 fn chosen(c: bool, yes: u32, no: u32) -> u32
     ensures { λ r. ⌜ r ≡ cond c yes no ⌝ }
 {
     if c { yes } else { no }
 }
 
+// A write to 03 starts or ends the hold; with CHARGER_MODE set the charger timer stands at 0.
 fn timers_written(t: Timers, command: u8, word: u16) -> Timers
     ensures { λ r. ⌜ r ≡ timersWritten t command word ⌝ }
 {
@@ -210,6 +217,7 @@ fn timers_written(t: Timers, command: u8, word: u16) -> Timers
     }
 }
 
+// The pack after a served write.
 fn pack_written(p: Pack, command: u8, word: u16) -> Pack
     ensures { λ r. ⌜ r ≡ written p command word ⌝ }
 {
@@ -229,6 +237,7 @@ fn pack_written(p: Pack, command: u8, word: u16) -> Pack
     }
 }
 
+// A write, by its command's row.
 fn serve_write(s: State, command: u8, word: u16) -> Transacted
     ensures { λ r. ⌜ r ≡ writeOutcome s command word ⌝ }
 {
