@@ -1,2 +1,0 @@
-// The word of each register, a pure function of the state.
-ghost use mathlib.Core.Path.{_≡_};
