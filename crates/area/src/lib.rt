@@ -3,7 +3,7 @@ ghost use mathlib.Core.Path.{_≡_};
 ghost use Prim.Native.Nat.{_+_, _*_, _≤_, _<_};
 ghost use lib.ListN.{length};
 ghost use lib.Seq.{sets};
-ghost use Rattle.area.specs.Area.{bytesOf, wordsOf, flagOf, settingsBytes, hostBytes, latestBytes, keptBytes, tankBytes, timersBytes, numberAt, wordsAt, settingsIn, hostIn, latestIn, keptIn, tankIn, timersIn, isArea, loadedOf, storedOf, roomAfter};
+ghost use Rattle.area.specs.Area.{bytesOf, wordsOf, flagOf, settingsBytes, hostBytes, latestBytes, keptBytes, tankBytes, timersBytes, areaOf, numberAt, wordsAt, settingsIn, hostIn, latestIn, keptIn, tankIn, timersIn, stateIn, isArea, loadedOf, storedOf, roomAfter};
 use pack::Host;
 use pack::Kept;
 use pack::Latest;
@@ -99,7 +99,8 @@ fn put_latest(area: &mut [u8], l: Latest)
 
 fn put_kept(area: &mut [u8], k: Kept)
     requires { ⌜ (186 ≤ length (now area)) × (k .count ≤ 255) ⌝ }
-    ensures { λ _. ⌜ now (area .exit) ≡ sets (now (area .entry)) 40 (keptBytes k) ⌝ }
+    ensures memory { λ _. ⌜ now (area .exit) ≡ sets (now (area .entry)) 40 (keptBytes k) ⌝ }
+    ensures size { λ _. ⌜ length (keptBytes k) ≡ 121 ⌝ }
 {
     let currents = k.currents;
     put_words(area, 40, &currents);
@@ -124,6 +125,20 @@ fn put_timers(area: &mut [u8], t: Timers)
     put_number(area, 182, 4, t.charger as u64);
 }
 
+// The whole area.
+fn put_state(area: &mut [u8], s: State)
+    requires { ⌜ (length (now area) ≡ 186) × (s .pack .kept .count ≤ 255) ⌝ }
+    ensures { λ _. ⌜ now (area .exit) ≡ areaOf s ⌝ }
+{
+    put_number(area, 0, 1, s.error as u64);
+    put_settings(area, s.pack.settings);
+    put_host(area, s.pack.host);
+    put_latest(area, s.pack.latest);
+    put_kept(area, s.pack.kept);
+    put_tank(area, s.pack.tank);
+    put_timers(area, s.pack.timers);
+}
+
 // A state into room for an area: answer 0; or 1, and the room stays.
 pub fn store(s: State, room: &mut [u8]) -> u8
     ensures answer { λ r. ⌜ r ≡ storedOf s (now (room .entry)) ⌝ }
@@ -135,13 +150,7 @@ pub fn store(s: State, room: &mut [u8]) -> u8
     if 255 < s.pack.kept.count {
         return 1;
     }
-    room[0] = s.error;
-    put_settings(room, s.pack.settings);
-    put_host(room, s.pack.host);
-    put_latest(room, s.pack.latest);
-    put_kept(room, s.pack.kept);
-    put_tank(room, s.pack.tank);
-    put_timers(room, s.pack.timers);
+    put_state(room, s);
     0
 }
 
@@ -228,13 +237,19 @@ fn latest_in(area: &[u8]) -> Latest
     }
 }
 
+fn counted(b: u8) -> usize
+    ensures { λ r. ⌜ r ≡ b ⌝ }
+{
+    b as usize
+}
+
 fn kept_in(area: &[u8]) -> Kept
     requires { ⌜ 186 ≤ length (now area) ⌝ }
     ensures { λ r. ⌜ r ≡ keptIn (now (area .entry)) ⌝ }
 {
     Kept {
         currents: words_at(area, 40),
-        count: area[160] as usize,
+        count: counted(area[160]),
     }
 }
 
@@ -271,16 +286,10 @@ pub fn is_area(area: &[u8]) -> bool
     (area[27] <= 1) & (area[28] <= 1) & (area[29] <= 1) & (area[173] <= 1)
 }
 
-// The state of an area: answer 0; or 1 and the all-zero state.
-pub fn load(area: &[u8]) -> Loaded
-    ensures { λ r. ⌜ r ≡ loadedOf (now (area .entry)) ⌝ }
+fn state_in(area: &[u8]) -> State
+    requires { ⌜ 186 ≤ length (now area) ⌝ }
+    ensures { λ r. ⌜ r ≡ stateIn (now (area .entry)) ⌝ }
 {
-    if !is_area(area) {
-        return Loaded {
-            answer: 1,
-            state: pack::zero(),
-        };
-    }
     let pack = Pack {
         settings: settings_in(area),
         host: host_in(area),
@@ -289,11 +298,26 @@ pub fn load(area: &[u8]) -> Loaded
         tank: tank_in(area),
         timers: timers_in(area),
     };
+    State {
+        error: area[0],
+        pack: pack,
+    }
+}
+
+// The state of an area: answer 0; or 1 and the all-zero state.
+pub fn load(area: &[u8]) -> Loaded
+    ensures { λ r. ⌜ r ≡ loadedOf (now (area .entry)) ⌝ }
+{
+    if is_area(area) {
+        let state = state_in(area);
+        return Loaded {
+            answer: 0,
+            state: state,
+        };
+    }
+    let none = pack::zero();
     Loaded {
-        answer: 0,
-        state: State {
-            error: area[0],
-            pack: pack,
-        },
+        answer: 1,
+        state: none,
     }
 }

@@ -1,3 +1,4 @@
+use lib.ListN.{length-set}
 use borrow.Author.Needs.{needs}
 use borrow.Author.Tests.{lt-ltb, le-ltb, le-leb, lt-leb, eq-eqb, ne-eqb, ltb-true, leb-true}
 use native.Mathlib.Omega.{arith}
@@ -31,7 +32,7 @@ flag-requires-2 c κs = search needs
 
 -- src/lib.rt:88:5
 slice-write-area-2 : tie.Need-slice-write-area-2
-slice-write-area-2 c = ?
+slice-write-area-2 c = simp length-set (omega arith)
 
 -- src/lib.rt:89:16
 flag-requires-3 : tie.Need-flag-requires-3
@@ -39,7 +40,7 @@ flag-requires-3 c κs = search needs
 
 -- src/lib.rt:89:5
 slice-write-area-3 : tie.Need-slice-write-area-3
-slice-write-area-3 c = ?
+slice-write-area-3 c = simp length-set (omega arith)
 
 -- src/lib.rt:78:1
 same-length : tie.Need-same-length
@@ -47,7 +48,7 @@ same-length c = search needs
 
 -- src/lib.rt:78:1
 returns : tie.Need-returns
-returns c = ?
+returns c = rw (c .flag3 .ensures, c .before .flag2 .ensures, c .before .before .flag .ensures, c .before .before .before .before .before .put-words .ensures)
 
 pub put-host-spec : {M : Type 1} → statement M
 put-host-spec =

@@ -1,3 +1,5 @@
+use lib.ListN.{length}
+use Rattle.area.proofs.Parts.{kept-laid, kept-length}
 use borrow.Author.Needs.{needs}
 use borrow.Author.Tests.{lt-ltb, le-ltb, le-leb, lt-leb, eq-eqb, ne-eqb, ltb-true, leb-true}
 use native.Mathlib.Omega.{arith}
@@ -14,7 +16,8 @@ slice-aggregate-put-words c = search needs
 
 -- src/lib.rt:105:5
 put-words-requires : tie.Need-put-words-requires
-put-words-requires c κs = ?
+put-words-requires c κs =
+    let n : 60 ≡ length (c .before .before .before .before .args .k .currents) = slice-aggregate-put-words c in omega (arith, n)
 
 -- src/lib.rt:106:17
 cast-area : tie.Need-cast-area
@@ -30,7 +33,10 @@ same-length c = search needs
 
 -- src/lib.rt:100:1
 returns : tie.Need-returns
-returns c = ?
+returns c =
+    let a = c .before .before .before .before .before .before .before .before .args in
+    let n : 60 ≡ length (a .k .currents) = slice-aggregate-put-words (c .before .before .before .before) in
+    (rw (c .before .before .before .put-words .ensures) (kept-laid (a .area .now) (a .k) (sym n) (omega arith)), kept-length (a .k) (sym n))
 
 pub put-kept-spec : {M : Type 1} → statement M
 put-kept-spec =

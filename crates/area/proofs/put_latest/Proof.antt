@@ -31,7 +31,7 @@ same-length c = search needs
 
 -- src/lib.rt:92:1
 returns : tie.Need-returns
-returns c = ?
+returns c = rw (c .before .before .put-number .ensures, c .before .before .before .before .before .before .before .put-words .ensures)
 
 pub put-latest-spec : {M : Type 1} → statement M
 put-latest-spec =

@@ -52,7 +52,7 @@ loop-again : tie.Need-loop-again Inv-loop μ-loop
 loop-again c =
     let l = c .before .loop in
     let a = c .before .before .args in
-    (omega arith, number-turn (l .area) (a .at) (a .n) (l .i) (l .left) (c .loop-test .taken) ∙ l .inv .1, length-set _ _ _ ∙ l .inv .2)
+    (omega arith, number-turn (l .area) (a .at) (a .n) (l .i) (l .left) (c .loop-test .taken) ∙ l .inv .1, simp length-set (l .inv .2))
 
 -- src/lib.rt:23:1
 same-length : tie.Need-same-length Inv-loop μ-loop

@@ -1,3 +1,4 @@
+use lib.ListN.{length-set}
 use borrow.Author.Needs.{needs}
 use borrow.Author.Tests.{lt-ltb, le-ltb, le-leb, lt-leb, eq-eqb, ne-eqb, ltb-true, leb-true}
 use native.Mathlib.Omega.{arith}
@@ -32,11 +33,11 @@ slice-write-area c = search needs
 
 -- src/lib.rt:109:1
 same-length : tie.Need-same-length
-same-length c = ?
+same-length c = simp (c .before .before .before .put-words .ensures, c .before .before .before .before .before .before .before .before .put-number .ensures, length-set)
 
 -- src/lib.rt:109:1
 returns : tie.Need-returns
-returns c = ?
+returns c = rw (c .flag .ensures, c .before .before .before .put-words .ensures, c .before .before .before .before .before .before .before .before .put-number .ensures)
 
 pub put-tank-spec : {M : Type 1} → statement M
 put-tank-spec =

@@ -38,7 +38,7 @@ same-length c = search needs
 
 -- src/lib.rt:118:1
 returns : tie.Need-returns
-returns c = ?
+returns c = rw (c .before .before .put-number3 .ensures, c .before .before .before .before .before .before .before .put-number2 .ensures, c .before .before .before .before .before .before .before .before .before .before .before .before .put-number .ensures)
 
 pub put-timers-spec : {M : Type 1} → statement M
 put-timers-spec =

@@ -80,7 +80,7 @@ loop-again c =
     (
       omega arith,
       words-turn (l .area) (a .words .now) (a .at) (l .i) (c .before .before .before .loop-test .taken) (omega arith) (c .before .low .ensures) (c .high .ensures) ∙ l .inv .1,
-      length-set _ _ _ ∙ length-set _ _ _ ∙ l .inv .2,
+      simp length-set (l .inv .2),
     )
 
 -- src/lib.rt:37:1

@@ -73,7 +73,7 @@ returns c =
     let e : l .i ≡ 60 = omega (arith, c .loop-test .left) in
     l .inv .1
     ∙ ap (λ (k : ℕ). sets (replicate 60 0) 0 (wordsAt k (a .area .now) (a .at))) e
-    ∙ whole (replicate 60 0) (wordsAt 60 (a .area .now) (a .at)) (words-count 60 (a .area .now) (a .at) ∙ sym (length-replicate 60 0))
+    ∙ whole (replicate 60 0) (wordsAt 60 (a .area .now) (a .at)) (words-count 60 (a .area .now) (a .at) ∙ sym (length-replicate {A = ℕ} 60 0))
 
 pub words-at-spec : {M : Type 1} → statement M
 words-at-spec =
