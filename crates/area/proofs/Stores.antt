@@ -63,7 +63,7 @@ words-last zero area at = let e : at ≡ at + 2 * 0 = omega arith in ap (λ (k :
 words-last (suc n) area at =
     let e : at + 2 + 2 * n ≡ at + 2 * suc n = omega arith in
     ap (λ (l : List ℕ). numberAt 2 area at ∷ l)
-        (words-last n area (at + 2) ∙ ap (λ (k : ℕ). wordsAt n area (at + 2) ++ (numberAt 2 area k ∷ [])) e)
+    (words-last n area (at + 2) ∙ ap (λ (k : ℕ). wordsAt n area (at + 2) ++ (numberAt 2 area k ∷ [])) e)
 
 -- one word more read
 pub read-turn : (room area : List ℕ) (at i : ℕ) → set (sets room 0 (wordsAt i area at)) i (numberAt 2 area (at + 2 * i)) ≡ sets room 0 (wordsAt (i + 1) area at)

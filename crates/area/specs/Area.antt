@@ -146,7 +146,7 @@ latestIn area =
     }
 
 abbrev pub keptIn : List ℕ → Kept
-keptIn area = record { currents = wordsAt 60 area 40; count = numberAt 1 area 160 }
+keptIn area = record { currents = wordsAt 60 area 40; count = getD area 160 0 }
 
 abbrev pub tankIn : List ℕ → Tank
 tankIn area =
@@ -164,7 +164,7 @@ timersIn area = record { hold = numberAt 4 area 174; alarm = numberAt 4 area 178
 unfoldable pub stateIn : List ℕ → State
 stateIn area =
     record {
-      error = numberAt 1 area 0;
+      error = getD area 0 0;
       pack =
           record {
             settings = settingsIn area;

@@ -82,7 +82,12 @@ fn put_host(area: &mut [u8], h: Host)
     put_words(
         area,
         19,
-        &[h.ManufacturerAccess, h.RemainingCapacityAlarm, h.RemainingTimeAlarm, h.AtRate],
+        &[
+            h.ManufacturerAccess,
+            h.RemainingCapacityAlarm,
+            h.RemainingTimeAlarm,
+            h.AtRate,
+        ],
     );
     area[27] = flag(h.AlarmMode);
     area[28] = flag(h.ChargerMode);

@@ -33,7 +33,7 @@ slice-write-area c = search needs
 
 -- src/lib.rt:109:1
 same-length : tie.Need-same-length
-same-length c = simp (c .before .before .before .put-words .ensures, c .before .before .before .before .before .before .before .before .put-number .ensures, length-set)
+same-length c = simp length-set (c .before .before .before .put-words .kept .0 ∙ c .before .before .before .before .before .before .before .before .put-number .kept .0)
 
 -- src/lib.rt:109:1
 returns : tie.Need-returns

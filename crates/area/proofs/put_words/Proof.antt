@@ -76,8 +76,7 @@ loop-less c = omega arith
 loop-again : tie.Need-loop-again Inv-loop μ-loop
 loop-again c =
     let l = c .before .before .before .before .loop in
-    let a = c .before .before .before .before .before .before .before .args in
-    (
+    let a = c .before .before .before .before .before .before .before .args in (
       omega arith,
       words-turn (l .area) (a .words .now) (a .at) (l .i) (c .before .before .before .loop-test .taken) (omega arith) (c .before .low .ensures) (c .high .ensures) ∙ l .inv .1,
       simp length-set (l .inv .2),

@@ -47,16 +47,17 @@ word-at-requires-9 c κs = search needs
 -- src/lib.rt:187:1
 returns : tie.Need-returns
 returns c =
-    simp
-        (c .before .before .before .before .before .before .before .before .word-at .ensures,
-        c .before .before .before .before .before .before .before .word-at2 .ensures,
-        c .before .before .before .before .before .before .word-at3 .ensures,
-        c .before .before .before .before .before .word-at4 .ensures,
-        c .before .before .before .before .word-at5 .ensures,
-        c .before .before .before .word-at6 .ensures,
-        c .before .before .word-at7 .ensures,
-        c .before .word-at8 .ensures,
-        c .word-at9 .ensures)
+    simp (
+      c .before .before .before .before .before .before .before .before .word-at .ensures,
+      c .before .before .before .before .before .before .before .word-at2 .ensures,
+      c .before .before .before .before .before .before .word-at3 .ensures,
+      c .before .before .before .before .before .word-at4 .ensures,
+      c .before .before .before .before .word-at5 .ensures,
+      c .before .before .before .word-at6 .ensures,
+      c .before .before .word-at7 .ensures,
+      c .before .word-at8 .ensures,
+      c .word-at9 .ensures,
+    )
 
 pub settings-in-spec : {M : Type 1} → statement M
 settings-in-spec =

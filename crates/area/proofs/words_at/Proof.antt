@@ -57,12 +57,11 @@ loop-less c = omega arith
 loop-again : tie.Need-loop-again Inv-loop μ-loop
 loop-again c =
     let l = c .before .before .loop in
-    let a = c .before .before .before .before .args in
-    (
+    let a = c .before .before .before .before .args in (
       omega arith,
       ap (λ (v : ℕ). set (l .found) (l .i) v) (c .word-at .ensures)
-      ∙ ap (λ (f : List ℕ). set f (l .i) (numberAt 2 (a .area .now) (a .at + 2 * l .i))) (l .inv .1)
-      ∙ read-turn (replicate 60 0) (a .area .now) (a .at) (l .i),
+          ∙ ap (λ (f : List ℕ). set f (l .i) (numberAt 2 (a .area .now) (a .at + 2 * l .i))) (l .inv .1)
+          ∙ read-turn (replicate 60 0) (a .area .now) (a .at) (l .i),
     )
 
 -- src/lib.rt:173:1
