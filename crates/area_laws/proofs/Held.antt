@@ -7,7 +7,7 @@ use Prim.Native.Nat.{ℕ, zero, suc, _+_, _*_, _/_, _%_, _≤_, _<_}
 use native.Mathlib.Nat.{add-zero}
 use native.Mathlib.Omega.{arith}
 use lib.Dec.{eqb}
-use lib.ListN.{length, getD, drop, drop-of-length-le}
+use lib.ListN.{length, getD, drop}
 use lib.Seq.{drop-cons}
 use borrow.Author.Tests.{eqb-true, eqb-false}
 use Rattle.area.specs.Area.{bytesOf, wordsOf, flagOf, settingsBytes, hostBytes, latestBytes, keptBytes, tankBytes, timersBytes, numberAt, wordsAt, flagAt, settingsIn, hostIn, latestIn, keptIn, tankIn, timersIn}
@@ -76,9 +76,9 @@ module _ (a : List ℕ) (b : Below 256 a) where
     host-again =
         let e₃ : flagOf (flagAt a 29) ∷ drop 30 a ≡ drop 29 a = flag-on 29 (omega arith) (f .capacity) in
         let e₂ : flagOf (flagAt a 28) ∷ flagOf (flagAt a 29) ∷ drop 30 a ≡ drop 28 a =
-              ap (λ (l : List ℕ). flagOf (flagAt a 28) ∷ l) e₃ ∙ flag-on 28 (omega arith) (f .charger) in
+        ap (λ (l : List ℕ). flagOf (flagAt a 28) ∷ l) e₃ ∙ flag-on 28 (omega arith) (f .charger) in
         let e₁ : flagOf (flagAt a 27) ∷ flagOf (flagAt a 28) ∷ flagOf (flagAt a 29) ∷ drop 30 a ≡ drop 27 a =
-              ap (λ (l : List ℕ). flagOf (flagAt a 27) ∷ l) e₂ ∙ flag-on 27 (omega arith) (f .alarm) in
+        ap (λ (l : List ℕ). flagOf (flagAt a 27) ∷ l) e₂ ∙ flag-on 27 (omega arith) (f .alarm) in
         on (wordsOf (wordsAt 4 a 19)) (flagOf (flagAt a 27) ∷ flagOf (flagAt a 28) ∷ flagOf (flagAt a 29) ∷ []) (drop 30 a) (drop 27 a) e₁
         ∙ words-again 4 19 (omega (arith, f .size))
 

@@ -122,30 +122,32 @@ module _ (s : State) (f : Fits s) where
   settings-back =
       let t = s .pack .settings in
       let b = f .settings in
-      rw
-          (word-back (t .DesignCapacity) (b .0),
-          word-back (t .DesignVoltage) (b .1 .0),
-          word-back (t .MaxError) (b .1 .1 .0),
-          word-back (t .ManufactureDate) (b .1 .1 .1 .0),
-          word-back (t .SerialNumber) (b .1 .1 .1 .1 .0),
-          word-back (t .ChargingCurrent) (b .1 .1 .1 .1 .1 .0),
-          word-back (t .ChargingVoltage) (b .1 .1 .1 .1 .1 .1 .0),
-          word-back (t .TemperatureLimit) (b .1 .1 .1 .1 .1 .1 .1 .0),
-          word-back (t .DischargeLimit) (b .1 .1 .1 .1 .1 .1 .1 .1 .0))
+      rw (
+        word-back (t .DesignCapacity) (b .0),
+        word-back (t .DesignVoltage) (b .1 .0),
+        word-back (t .MaxError) (b .1 .1 .0),
+        word-back (t .ManufactureDate) (b .1 .1 .1 .0),
+        word-back (t .SerialNumber) (b .1 .1 .1 .1 .0),
+        word-back (t .ChargingCurrent) (b .1 .1 .1 .1 .1 .0),
+        word-back (t .ChargingVoltage) (b .1 .1 .1 .1 .1 .1 .0),
+        word-back (t .TemperatureLimit) (b .1 .1 .1 .1 .1 .1 .1 .0),
+        word-back (t .DischargeLimit) (b .1 .1 .1 .1 .1 .1 .1 .1 .0),
+      )
 
   pub host-back : hostIn (areaOf s) ≡ s .pack .host
   unfolding areaOf
   host-back =
       let h = s .pack .host in
       let b = f .host in
-      rw
-          (word-back (h .ManufacturerAccess) (b .0),
-          word-back (h .RemainingCapacityAlarm) (b .1 .0),
-          word-back (h .RemainingTimeAlarm) (b .1 .1 .0),
-          word-back (h .AtRate) (b .1 .1 .1 .0),
-          flag-back (h .AlarmMode),
-          flag-back (h .ChargerMode),
-          flag-back (h .CapacityMode))
+      rw (
+        word-back (h .ManufacturerAccess) (b .0),
+        word-back (h .RemainingCapacityAlarm) (b .1 .0),
+        word-back (h .RemainingTimeAlarm) (b .1 .1 .0),
+        word-back (h .AtRate) (b .1 .1 .1 .0),
+        flag-back (h .AlarmMode),
+        flag-back (h .ChargerMode),
+        flag-back (h .CapacityMode),
+      )
 
   pub latest-back : latestIn (areaOf s) ≡ s .pack .latest
   unfolding areaOf
@@ -183,17 +185,19 @@ module _ (s : State) (f : Fits s) where
   tank-back =
       let t = s .pack .tank in
       let flag : flagAt (areaOf s) 173 ≡ t .FullyDischarged =
-            ap (λ (b : ℕ). eqb b 1) flag-late ∙ flag-back (t .FullyDischarged) in
-      rw
-          (late 8 0 ∙ wide-back (t .charge) (f .charge),
-          late 2 8 ∙ word-back (t .full) (f .tank .0),
-          late 2 10 ∙ word-back (t .CycleCount) (f .tank .1 .0),
-          flag)
+      ap (λ (b : ℕ). eqb b 1) flag-late ∙ flag-back (t .FullyDischarged) in
+      rw (
+        late 8 0 ∙ wide-back (t .charge) (f .charge),
+        late 2 8 ∙ word-back (t .full) (f .tank .0),
+        late 2 10 ∙ word-back (t .CycleCount) (f .tank .1 .0),
+        flag,
+      )
 
   pub timers-back : timersIn (areaOf s) ≡ s .pack .timers
   timers-back =
       let t = s .pack .timers in
-      rw
-          (late 4 13 ∙ long-back (t .hold) (f .timers .0),
-          late 4 17 ∙ long-back (t .alarm) (f .timers .1 .0),
-          late 4 21 ∙ long-back (t .charger) (f .timers .1 .1 .0))
+      rw (
+        late 4 13 ∙ long-back (t .hold) (f .timers .0),
+        late 4 17 ∙ long-back (t .alarm) (f .timers .1 .0),
+        late 4 21 ∙ long-back (t .charger) (f .timers .1 .1 .0),
+      )

@@ -1,14 +1,13 @@
 -- The promises on areas. Reading back what was stored gives the state; every area is some state's; so different states
 -- have different areas, and different areas hold different states.
 -- Assumes nothing.
-use mathlib.Core.Path.{_≡_, refl, sym, ap, _∙_}
+use mathlib.Core.Path.{_≡_, sym, ap, _∙_}
 use mathlib.Core.Bool.{true}
 use mathlib.Core.List.{List, [], _++_, append-nil}
 use Prim.Native.Nat.{ℕ, _≤_}
 use native.Mathlib.Omega.{arith}
 use lib.ListN.{length, getD, drop, drop-of-length-le}
 use Rattle.area.specs.Area.{bytesOf, settingsBytes, hostBytes, latestBytes, keptBytes, tankBytes, timersBytes, areaOf, stateIn, settingsIn, hostIn, latestIn, keptIn, tankIn, timersIn, isArea, loadedOf}
-use Rattle.area.specs.declared.Loaded.{Loaded}
 use Rattle.area.proofs.Parts.{kept-length, area-length}
 use Rattle.area.proofs.Tests.{IsArea, facts, tested}
 use Rattle.area_laws.specs.Fits.{Below, Fits}
@@ -74,13 +73,13 @@ held a b is =
     let past : length a ≤ 186 = omega (arith, f .size) in
     let none : drop 186 a ≡ [] = drop-of-length-le a past in
     let whole : (E ++ S ++ H ++ L ++ K ++ T ++ R) ++ drop 186 a ≡ a =
-          on (E ++ S ++ H ++ L ++ K ++ T) R (drop 186 a) (drop 174 a) (timers-again a b f)
-          ∙ on (E ++ S ++ H ++ L ++ K) T (drop 174 a) (drop 161 a) (tank-again a b f)
-          ∙ on (E ++ S ++ H ++ L) K (drop 161 a) (drop 40 a) (kept-again a b f)
-          ∙ on (E ++ S ++ H) L (drop 40 a) (drop 30 a) (latest-again a b f)
-          ∙ on (E ++ S) H (drop 30 a) (drop 19 a) (host-again a b f)
-          ∙ on E S (drop 19 a) (drop 1 a) (settings-again a b f)
-          ∙ error-again a b f in
+    on (E ++ S ++ H ++ L ++ K ++ T) R (drop 186 a) (drop 174 a) (timers-again a b f)
+    ∙ on (E ++ S ++ H ++ L ++ K) T (drop 174 a) (drop 161 a) (tank-again a b f)
+    ∙ on (E ++ S ++ H ++ L) K (drop 161 a) (drop 40 a) (kept-again a b f)
+    ∙ on (E ++ S ++ H) L (drop 40 a) (drop 30 a) (latest-again a b f)
+    ∙ on (E ++ S) H (drop 30 a) (drop 19 a) (host-again a b f)
+    ∙ on E S (drop 19 a) (drop 1 a) (settings-again a b f)
+    ∙ error-again a b f in
     sym (append-nil (E ++ S ++ H ++ L ++ K ++ T ++ R)) ∙ ap (λ (l : List ℕ). (E ++ S ++ H ++ L ++ K ++ T ++ R) ++ l) (sym none) ∙ whole
 
 -- two areas that hold one state are one

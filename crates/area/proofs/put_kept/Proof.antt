@@ -1,37 +1,29 @@
+-- `area::put_kept` meets its contract.
+-- Assumes nothing.
 use lib.ListN.{length}
 use Rattle.area.proofs.Parts.{kept-laid, kept-length}
 use borrow.Author.Needs.{needs}
-use borrow.Author.Tests.{lt-ltb, le-ltb, le-leb, lt-leb, eq-eqb, ne-eqb, ltb-true, leb-true}
 use native.Mathlib.Omega.{arith}
-use mathlib.Core.Path.{_≡_, refl, ap, _∙_, sym}
+use mathlib.Core.Path.{_≡_, sym}
 use Rattle.area.proofs.put_kept.Statement.{statement}
 use Rattle.area.proofs.put_kept.Tie as tie
-use Rattle.area.proofs.put_kept.Reads as reads
-use Rattle.area.proofs.put_kept.Lts as lts
-use Rattle.area.proofs.put_words.Reads as put-words-reads
 
--- src/lib.rt:105:25
 slice-aggregate-put-words : tie.Need-slice-aggregate-put-words
 slice-aggregate-put-words c = search needs
 
--- src/lib.rt:105:5
 put-words-requires : tie.Need-put-words-requires
 put-words-requires c κs =
     let n : 60 ≡ length (c .before .before .before .before .args .k .currents) = slice-aggregate-put-words c in omega (arith, n)
 
--- src/lib.rt:106:17
 cast-area : tie.Need-cast-area
 cast-area c = search needs
 
--- src/lib.rt:106:5
 slice-write-area : tie.Need-slice-write-area
 slice-write-area c = search needs
 
--- src/lib.rt:100:1
 same-length : tie.Need-same-length
 same-length c = search needs
 
--- src/lib.rt:100:1
 returns : tie.Need-returns
 returns c =
     let a = c .before .before .before .before .before .before .before .before .args in

@@ -1,16 +1,14 @@
+-- `area::put_number` meets its contract.
+-- Assumes nothing.
 use Prim.Native.Nat.{ℕ, _≤_, _+_, _-_}
 use lib.ListN.{length, length-set}
 use lib.Seq.{sets}
 use Rattle.area.specs.Area.{bytesOf}
 use Rattle.area.proofs.Stores.{number-turn, number-done}
-use borrow.Author.Needs.{needs}
-use borrow.Author.Tests.{lt-ltb, le-ltb, le-leb, lt-leb, eq-eqb, ne-eqb, ltb-true, leb-true}
 use native.Mathlib.Omega.{arith}
 use mathlib.Core.Path.{_≡_, refl, ap, _∙_, sym}
 use Rattle.area.proofs.put_number.Statement.{statement}
 use Rattle.area.proofs.put_number.Tie as tie
-use Rattle.area.proofs.put_number.Reads as reads
-use Rattle.area.proofs.put_number.Lts as lts
 
 abbrev Inv-loop : tie.InvT-loop
 Inv-loop area₀ at n value i₀ left₀ area i left =
@@ -19,7 +17,6 @@ Inv-loop area₀ at n value i₀ left₀ area i left =
 abbrev μ-loop : tie.MeasureT-loop
 μ-loop area₀ at n value i₀ left₀ area i left = n - i
 
--- src/lib.rt:29:5
 loop-holds : tie.Need-loop-holds Inv-loop μ-loop
 loop-holds c =
     let a = c .args in
@@ -27,38 +24,30 @@ loop-holds c =
     let f : a .n - 0 ≡ a .n = omega arith in
     (omega arith, ap (λ (k : ℕ). sets (a .area .now) k (bytesOf (a .n - 0) (a .value))) e ∙ ap (λ (k : ℕ). sets (a .area .now) (a .at) (bytesOf k (a .value))) f, refl)
 
--- src/lib.rt:30:24
 cast-area : tie.Need-cast-area Inv-loop μ-loop
 cast-area c = omega arith
 
--- src/lib.rt:30:14
 add-area : tie.Need-add-area Inv-loop μ-loop
 add-area c = omega arith
 
--- src/lib.rt:30:9
 slice-write-area : tie.Need-slice-write-area Inv-loop μ-loop
 slice-write-area c = omega arith
 
--- src/lib.rt:32:9
 add-i : tie.Need-add-i Inv-loop μ-loop
 add-i c = omega arith
 
--- src/lib.rt:29:5
 loop-less : tie.Need-loop-less Inv-loop μ-loop
 loop-less c = omega arith
 
--- src/lib.rt:29:5
 loop-again : tie.Need-loop-again Inv-loop μ-loop
 loop-again c =
     let l = c .before .loop in
     let a = c .before .before .args in
     (omega arith, number-turn (l .area) (a .at) (a .n) (l .i) (l .left) (c .loop-test .taken) ∙ l .inv .1, simp length-set (l .inv .2))
 
--- src/lib.rt:23:1
 same-length : tie.Need-same-length Inv-loop μ-loop
 same-length c = c .before .loop .inv .2
 
--- src/lib.rt:23:1
 returns : tie.Need-returns Inv-loop μ-loop
 returns c =
     let l = c .before .loop in

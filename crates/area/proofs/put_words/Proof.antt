@@ -1,18 +1,15 @@
+-- `area::put_words` meets its contract.
+-- Assumes nothing.
 use Prim.Native.Nat.{ℕ, _≤_, _+_, _-_, _*_}
 use lib.ListN.{length, drop, length-set}
 use lib.Seq.{sets}
 use Rattle.area.specs.Area.{wordsOf}
 use Rattle.area.proofs.Stores.{words-turn, words-done}
 use borrow.Author.Needs.{needs}
-use borrow.Author.Tests.{lt-ltb, le-ltb, le-leb, lt-leb, eq-eqb, ne-eqb, ltb-true, leb-true}
 use native.Mathlib.Omega.{arith}
 use mathlib.Core.Path.{_≡_, refl, ap, _∙_, sym}
 use Rattle.area.proofs.put_words.Statement.{statement}
 use Rattle.area.proofs.put_words.Tie as tie
-use Rattle.area.proofs.put_words.Reads as reads
-use Rattle.area.proofs.put_words.Lts as lts
-use Rattle.words.proofs.high.Reads as high-reads
-use Rattle.words.proofs.low.Reads as low-reads
 
 abbrev Inv-loop : tie.InvT-loop
 Inv-loop area₀ at words i₀ area i =
@@ -21,58 +18,45 @@ Inv-loop area₀ at words i₀ area i =
 abbrev μ-loop : tie.MeasureT-loop
 μ-loop area₀ at words i₀ area i = length words - i
 
--- src/lib.rt:42:5
 loop-holds : tie.Need-loop-holds Inv-loop μ-loop
 loop-holds c =
     let a = c .before .before .args in
     let e : a .at + 2 * 0 ≡ a .at = omega arith in
     (omega arith, ap (λ (k : ℕ). sets (a .area .now) k (wordsOf (a .words .now))) e, refl)
 
--- src/lib.rt:43:17
 mul-w : tie.Need-mul-w Inv-loop μ-loop
 mul-w c = omega arith
 
--- src/lib.rt:43:17
 shared-slice-read-w : tie.Need-shared-slice-read-w Inv-loop μ-loop
 shared-slice-read-w c = omega arith
 
--- src/lib.rt:44:22
 mul-p : tie.Need-mul-p Inv-loop μ-loop
 mul-p c = omega arith
 
--- src/lib.rt:44:17
 add-p : tie.Need-add-p Inv-loop μ-loop
 add-p c = omega arith
 
--- src/lib.rt:45:19
 low-requires : tie.Need-low-requires Inv-loop μ-loop
 low-requires c κs = search needs
 
--- src/lib.rt:45:9
 slice-write-area : tie.Need-slice-write-area Inv-loop μ-loop
 slice-write-area c = omega arith
 
--- src/lib.rt:46:23
 high-requires : tie.Need-high-requires Inv-loop μ-loop
 high-requires c κs = search needs
 
--- src/lib.rt:46:14
 add-area : tie.Need-add-area Inv-loop μ-loop
 add-area c = omega arith
 
--- src/lib.rt:46:9
 slice-write-area-2 : tie.Need-slice-write-area-2 Inv-loop μ-loop
 slice-write-area-2 c = simp length-set (omega arith)
 
--- src/lib.rt:47:9
 add-i : tie.Need-add-i Inv-loop μ-loop
 add-i c = omega arith
 
--- src/lib.rt:42:5
 loop-less : tie.Need-loop-less Inv-loop μ-loop
 loop-less c = omega arith
 
--- src/lib.rt:42:5
 loop-again : tie.Need-loop-again Inv-loop μ-loop
 loop-again c =
     let l = c .before .before .before .before .loop in
@@ -82,11 +66,9 @@ loop-again c =
       simp length-set (l .inv .2),
     )
 
--- src/lib.rt:37:1
 same-length : tie.Need-same-length Inv-loop μ-loop
 same-length c = c .before .loop .inv .2
 
--- src/lib.rt:37:1
 returns : tie.Need-returns Inv-loop μ-loop
 returns c =
     let l = c .before .loop in

@@ -1,20 +1,15 @@
+-- `area::store` meets its contract.
+-- Assumes nothing.
 use Rattle.area.specs.Area.{roomAfter}
 use borrow.Author.Needs.{needs}
-use borrow.Author.Tests.{lt-ltb, le-ltb, le-leb, lt-leb, eq-eqb, ne-eqb, ltb-true, leb-true}
-use native.Mathlib.Omega.{arith}
-use mathlib.Core.Path.{_≡_, refl, ap, _∙_, sym}
+use borrow.Author.Tests.{le-leb, lt-leb, eq-eqb, ne-eqb}
 use Rattle.area.proofs.store.Statement.{statement}
 use Rattle.area.proofs.store.Tie as tie
-use Rattle.area.proofs.store.Reads as reads
-use Rattle.area.proofs.store.Lts as lts
-use Rattle.area.proofs.put_state.Reads as put-state-reads
 
--- src/lib.rt:148:9
 returns : tie.Need-returns
 unfolding roomAfter
 returns c = (rw (ne-eqb _ _ (c .if1 .taken)), rw (ne-eqb _ _ (c .if1 .taken)))
 
--- src/lib.rt:151:9
 returns-2 : tie.Need-returns-2
 unfolding roomAfter
 returns-2 c =
@@ -22,15 +17,12 @@ returns-2 c =
     let more = lt-leb _ _ (c .if2 .taken) in
     (rw (n, more), rw (n, more))
 
--- src/lib.rt:153:5
 put-state-requires : tie.Need-put-state-requires
 put-state-requires c κs = search needs
 
--- src/lib.rt:143:1
 same-length : tie.Need-same-length
 same-length c = search needs
 
--- src/lib.rt:143:1
 returns-3 : tie.Need-returns-3
 unfolding roomAfter
 returns-3 c =

@@ -1,18 +1,15 @@
+-- `area::words_at` meets its contract.
+-- Assumes nothing.
 use Prim.Native.Nat.{ℕ, _≤_, _+_, _-_, _*_}
 use mathlib.Core.List.{List}
 use lib.ListN.{set, replicate, length-replicate}
 use lib.Seq.{sets}
 use Rattle.area.specs.Area.{numberAt, wordsAt}
 use Rattle.area.proofs.Stores.{read-turn, whole, words-count}
-use borrow.Author.Needs.{needs}
-use borrow.Author.Tests.{lt-ltb, le-ltb, le-leb, lt-leb, eq-eqb, ne-eqb, ltb-true, leb-true}
 use native.Mathlib.Omega.{arith}
 use mathlib.Core.Path.{_≡_, refl, ap, _∙_, sym}
 use Rattle.area.proofs.words_at.Statement.{statement}
 use Rattle.area.proofs.words_at.Tie as tie
-use Rattle.area.proofs.words_at.Reads as reads
-use Rattle.area.proofs.words_at.Lts as lts
-use Rattle.area.proofs.word_at.Reads as word-at-reads
 
 abbrev Inv-loop : tie.InvT-loop
 Inv-loop area at found₀ i₀ found i =
@@ -21,39 +18,30 @@ Inv-loop area at found₀ i₀ found i =
 abbrev μ-loop : tie.MeasureT-loop
 μ-loop area at found₀ i₀ found i = 60 - i
 
--- src/lib.rt:179:5
 loop-holds : tie.Need-loop-holds Inv-loop μ-loop
 loop-holds c = (omega arith, refl)
 
--- src/lib.rt:180:36
 mul-word-at : tie.Need-mul-word-at Inv-loop μ-loop
 mul-word-at c = omega arith
 
--- src/lib.rt:180:31
 add-word-at : tie.Need-add-word-at Inv-loop μ-loop
 add-word-at c = omega arith
 
--- src/lib.rt:180:13
 word-at-requires : tie.Need-word-at-requires Inv-loop μ-loop
 word-at-requires c κs = omega arith
 
--- src/lib.rt:181:9
 mul-found : tie.Need-mul-found Inv-loop μ-loop
 mul-found c = omega arith
 
--- src/lib.rt:181:9
 array-write-found : tie.Need-array-write-found Inv-loop μ-loop
 array-write-found c = omega arith
 
--- src/lib.rt:182:9
 add-i : tie.Need-add-i Inv-loop μ-loop
 add-i c = omega arith
 
--- src/lib.rt:179:5
 loop-less : tie.Need-loop-less Inv-loop μ-loop
 loop-less c = omega arith
 
--- src/lib.rt:179:5
 loop-again : tie.Need-loop-again Inv-loop μ-loop
 loop-again c =
     let l = c .before .before .loop in
@@ -64,7 +52,6 @@ loop-again c =
           ∙ read-turn (replicate 60 0) (a .area .now) (a .at) (l .i),
     )
 
--- src/lib.rt:173:1
 returns : tie.Need-returns Inv-loop μ-loop
 returns c =
     let l = c .before .loop in
