@@ -3,7 +3,7 @@
 use mathlib.Core.Path.{_≡_, refl, sym, ap, _∙_}
 use mathlib.Core.Bool.{Bool, true, false}
 use mathlib.Core.List.{List, [], _∷_, _++_, append-assoc}
-use Prim.Native.Nat.{ℕ, zero, suc, _+_, _*_, _/_, _%_, _≤_, _<_}
+use Prim.Native.Nat.{ℕ, zero, suc, _+_, _*_, _/_, _%_, _^_, _≤_, _<_}
 use native.Mathlib.Nat.{add-zero}
 use native.Mathlib.Omega.{arith}
 use lib.Dec.{eqb}
@@ -60,6 +60,24 @@ module _ (a : List ℕ) (b : Below 256 a) where
       ap (λ (k : ℕ). w ++ (wordsOf (wordsAt n a (at + 2)) ++ drop k a)) next
       ∙ ap (λ (l : List ℕ). w ++ l) (words-again n (at + 2) (omega arith))
       ∙ number-again 2 at (omega arith)
+
+  -- ---- what is read is within its width
+
+  pub byte-fits : (at : ℕ) → getD a at 0 < 256
+  byte-fits at = byte-at a at b
+
+  pub word-fits : (at : ℕ) → numberAt 2 a at < 65536
+  word-fits at = omega (arith, byte-fits at, byte-fits (suc at))
+
+  pub long-fits : (at : ℕ) → numberAt 4 a at < 2 ^ 32
+  long-fits at = omega (arith, word-fits at, word-fits (suc (suc at)))
+
+  pub wide-fits : (at : ℕ) → numberAt 8 a at < 2 ^ 64
+  wide-fits at = omega (arith, long-fits at, long-fits (suc (suc (suc (suc at)))))
+
+  pub words-fit : (n at : ℕ) → Below 65536 (wordsAt n a at)
+  words-fit zero at = tt
+  words-fit (suc n) at = (word-fits at, words-fit n (at + 2))
 
   module _ (f : IsArea a) where
     flag-on : (at : ℕ) → at < 186 → getD a at 0 ≤ 1 → flagOf (flagAt a at) ∷ drop (suc at) a ≡ drop at a

@@ -9,9 +9,10 @@ use native.Mathlib.Omega.{arith}
 use lib.ListN.{length, getD, drop, drop-of-length-le}
 use Rattle.area.specs.Area.{bytesOf, settingsBytes, hostBytes, latestBytes, keptBytes, tankBytes, timersBytes, areaOf, stateIn, settingsIn, hostIn, latestIn, keptIn, tankIn, timersIn, isArea, loadedOf}
 use Rattle.area.proofs.Parts.{kept-length, area-length}
+use Rattle.area.proofs.Stores.{words-count}
 use Rattle.area.proofs.Tests.{IsArea, facts, tested}
 use Rattle.area_laws.specs.Fits.{Below, Fits}
-use Rattle.area_laws.proofs.Held.{on, error-again, settings-again, host-again, latest-again, kept-again, tank-again, timers-again}
+use Rattle.area_laws.proofs.Held.{on, byte-fits, long-fits, wide-fits, words-fit, error-again, settings-again, host-again, latest-again, kept-again, tank-again, timers-again}
 use Rattle.area_laws.proofs.Stored.{flag-small, late-flag, error-back, settings-back, host-back, latest-back, kept-back, tank-back, timers-back}
 use Rattle.pack.specs.declared.Host.{Host}
 use Rattle.pack.specs.declared.Kept.{Kept}
@@ -81,6 +82,24 @@ held a b is =
     ∙ on E S (drop 19 a) (drop 1 a) (settings-again a b f)
     ∙ error-again a b f in
     sym (append-nil (E ++ S ++ H ++ L ++ K ++ T ++ R)) ∙ ap (λ (l : List ℕ). (E ++ S ++ H ++ L ++ K ++ T ++ R) ++ l) (sym none) ∙ whole
+
+-- and that state fits
+pub held-fits : (a : List ℕ) → Below 256 a → Fits (stateIn a)
+unfolding stateIn
+held-fits a b =
+    record {
+      error = byte-fits a b 0;
+      settings = words-fit a b 9 1;
+      host = words-fit a b 4 19;
+      latest = words-fit a b 3 30;
+      counter = long-fits a b 36;
+      sixty = words-count 60 a 40;
+      currents = words-fit a b 60 40;
+      count = byte-fits a b 160;
+      charge = wide-fits a b 161;
+      tank = words-fit a b 2 169;
+      timers = (long-fits a b 174, (long-fits a b 178, (long-fits a b 182, tt)));
+    }
 
 -- two areas that hold one state are one
 pub areas-tell : (a b : List ℕ) → Below 256 a → Below 256 b → isArea a ≡ true → isArea b ≡ true → stateIn a ≡ stateIn b → a ≡ b
