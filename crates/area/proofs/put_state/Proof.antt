@@ -1,0 +1,63 @@
+-- `area::put_state` meets its contract.
+-- Assumes nothing.
+use Rattle.area.specs.Area.{areaOf}
+use Rattle.area.proofs.Parts.{state-laid, area-length}
+use Rattle.area.proofs.Stores.{whole}
+use borrow.Author.Needs.{needs}
+use mathlib.Core.Path.{_∙_, sym}
+use Rattle.area.proofs.put_state.Statement.{statement}
+use Rattle.area.proofs.put_state.Tie as tie
+
+cast-put-number : tie.Need-cast-put-number
+cast-put-number c = search needs
+
+put-number-requires : tie.Need-put-number-requires
+put-number-requires c κs = search needs
+
+put-settings-requires : tie.Need-put-settings-requires
+put-settings-requires c κs = search needs
+
+put-host-requires : tie.Need-put-host-requires
+put-host-requires c κs = search needs
+
+put-latest-requires : tie.Need-put-latest-requires
+put-latest-requires c κs = search needs
+
+put-kept-requires : tie.Need-put-kept-requires
+put-kept-requires c κs = search needs
+
+put-tank-requires : tie.Need-put-tank-requires
+put-tank-requires c κs = search needs
+
+put-timers-requires : tie.Need-put-timers-requires
+put-timers-requires c κs = search needs
+
+same-length : tie.Need-same-length
+same-length c = search needs
+
+returns : tie.Need-returns
+returns c =
+    let a = c .before .before .before .before .before .before .before .before .before .before .before .before .before .before .before .before .before .before .before .before .before .before .before .before .before .before .before .before .before .before .args in
+    let k = c .before .before .before .before .before .before .before .before .before .before .put-kept .ensures in
+    state-laid (a .area .now) (a .s) (k .1) (c .before .before .before .before .before .before .before .before .before .before .before .before .before .before .before .before .before .before .before .before .before .before .before .before .before .before .put-number .ensures) (c .before .before .before .before .before .before .before .before .before .before .before .before .before .before .before .before .before .before .before .before .before .before .put-settings .ensures)
+    (c .before .before .before .before .before .before .before .before .before .before .before .before .before .before .before .before .before .before .put-host .ensures)
+    (c .before .before .before .before .before .before .before .before .before .before .before .before .before .before .put-latest .ensures)
+    (k .0)
+    (c .before .before .before .before .before .before .put-tank .ensures)
+    (c .before .before .put-timers .ensures)
+    ∙ whole (a .area .now) (areaOf (a .s)) (area-length (a .s) (k .1) ∙ sym (c .before .before .before .before .before .before .before .before .before .before .before .before .before .before .before .before .before .before .before .before .before .before .before .before .before .before .before .before .before .before .pre .0))
+
+pub put-state-spec : {M : Type 1} → statement M
+put-state-spec =
+    tie.close
+    (tie.spec
+    cast-put-number
+    put-number-requires
+    put-settings-requires
+    put-host-requires
+    put-latest-requires
+    put-kept-requires
+    put-tank-requires
+    put-timers-requires
+    same-length
+    returns)
