@@ -8,7 +8,7 @@ use lib.IntN.{ℤ, pos, _+ℤ_, _*ℤ_}
 use lib.ListN.{take}
 use lib.Signed.{ltZ}
 use mir.Syntax.{w16}
-use mir.Val.{toZ}
+use mir.Val.{SFits}
 use Rattle.clock.specs.Broadcast.{alarmGoes, sampledOf}
 use Rattle.clock.specs.Sample.{elapsedOf, movedOf}
 use Rattle.gauge.specs.Status.{anyAlarm}
@@ -41,15 +41,16 @@ samplesOf k = take (k .count) (k .currents)
 abbrev pub heldTo : ℤ → ℤ → ℤ
 heldTo most z = cond (ltZ z (pos 0)) (pos 0) (cond (ltZ most z) most z)
 
--- the signed current that a sample's word stands for
-abbrev pub currentOf : Sample → ℤ
-currentOf x = toZ w16 (latestOf x .current)
+-- every current of a run is a signed 16-bit number, as the call's type has it
+abbrev pub Signed16 : List Sample → Type 0
+Signed16 [] = Unit {0}
+Signed16 (x ∷ xs) = SFits w16 (x .current) × Signed16 xs
 
 -- the charge after a run: each sample adds current × elapsed, held between 0 and full
 abbrev pub chargeOver : ℕ → ℤ → ℕ → List Sample → ℤ
 chargeOver full charge counter [] = charge
 chargeOver full charge counter (x ∷ xs) =
-    chargeOver full (heldTo (pos (milliampMs full)) (charge +ℤ currentOf x *ℤ pos (elapsedOf (x .counter) counter))) (x .counter) xs
+    chargeOver full (heldTo (pos (milliampMs full)) (charge +ℤ x .current *ℤ pos (elapsedOf (x .counter) counter))) (x .counter) xs
 
 -- an alarm bit stays set with ALARM_MODE clear, and accepted samples come at most 1 s apart
 abbrev pub Alarming : Pack → List Sample → Type 0

@@ -1,0 +1,88 @@
+-- While an alarm bit stays set, an alarm goes in every 11 s.
+-- Assumes nothing.
+use Prim.Native.Nat.{ℕ, _+_, _-_, _≤_, _<_, min}
+use mathlib.Core.Bool.{Bool, true, false, cond, not, _&&_}
+use mathlib.Core.List.{List, [], _∷_, _++_}
+use mathlib.Core.Path.{_≡_, refl, ap, _∙_, sym, subst}
+use native.Mathlib.Decide.{decLt}
+use native.Mathlib.Omega.{arith}
+use borrow.Author.Tests.{le-leb, lt-leb}
+use lib.Dec.{leb}
+use Rattle.clock.specs.Broadcast.{alarmGoes, sampledOf}
+use Rattle.clock.specs.Sample.{movedOf}
+use Rattle.clock_laws.specs.Run.{runOf, totalOf, Alarming, AlarmWithin}
+use Rattle.clock_laws.proofs.Steps.{gap, moved-alarm, sampled-alarm, total-from}
+use Rattle.gauge.specs.Status.{anyAlarm}
+use Rattle.pack.proofs.Soundness.{facts}
+use Rattle.pack.specs.SetUp.{packOf}
+use Rattle.pack.specs.Sound.{soundOf}
+use Rattle.pack.specs.declared.Pack.{Pack}
+use Rattle.pack.specs.declared.Sample.{Sample}
+use Rattle.pack.specs.declared.Setup.{Setup}
+use Rattle.pack.specs.declared.State.{State}
+
+by-dec : {P : Type 0} (x y : ℕ) → Dec (x < y) → (x < y → P) → (y ≤ x → P) → P
+by-dec x y (yes h) f g = f h
+by-dec x y (no n) f g = g (omega (arith, n))
+
+pub split : {P : Type 0} (x y : ℕ) → (x < y → P) → (y ≤ x → P) → P
+split x y f g = by-dec x y (decLt x y) f g
+
+-- with a bit set and ALARM_MODE clear the timer alone decides
+pub timer-decides : (q : Pack) → anyAlarm q ≡ true → q .host .AlarmMode ≡ false → alarmGoes q ≡ leb 10000 (q .timers .alarm)
+unfolding alarmGoes
+timer-decides q a m = simp (a, m)
+
+-- an alarm that goes in the rest of a run goes in the whole
+later : (most : ℕ) (p : Pack) (x : Sample) (xs : List Sample) → gap p x ≤ most → AlarmWithin (most - gap p x) (sampledOf p x) xs
+    → AlarmWithin most p (x ∷ xs)
+later most p x xs h (before, y, after, e, g, l) =
+    (x ∷ before, y, after, ap (λ (r : List Sample). x ∷ r) e, g, omega (arith, h, l, total-from p x (before ++ y ∷ [])))
+
+-- the timer has reached its mark: at this sample
+now-goes : (most : ℕ) (p : Pack) (x : Sample) (xs : List Sample) → Alarming p (x ∷ xs) → 10000 ≤ p .timers .alarm + gap p x → 1000 ≤ most
+    → AlarmWithin most p (x ∷ xs)
+now-goes most p x xs (any, mode, near, rest) h m =
+    ([], x, xs, refl, timer-decides (movedOf p x) any mode ∙ le-leb 10000 (movedOf p x .timers .alarm) (omega (arith, moved-alarm p x, h)), omega (arith, near, m))
+
+-- it hasn't: it counts on
+counts-on : (p : Pack) (x : Sample) (xs : List Sample) → Alarming p (x ∷ xs) → p .timers .alarm + gap p x < 10000
+    → sampledOf p x .timers .alarm ≡ p .timers .alarm + gap p x
+counts-on p x xs (any, mode, near, rest) h =
+    let e : min 10000 (p .timers .alarm + gap p x) ≡ p .timers .alarm + gap p x = omega arith in
+    let quiet = timer-decides (movedOf p x) any mode ∙ lt-leb 10000 (movedOf p x .timers .alarm) (omega (arith, moved-alarm p x, h)) in
+    sampled-alarm p x ∙ ap (λ (b : Bool). cond b 0 (movedOf p x .timers .alarm)) quiet ∙ moved-alarm p x ∙ e
+
+-- what the timer lacks to its mark, and one gap more
+waits : (p : Pack) (xs : List Sample) (most : ℕ) → p .timers .alarm ≤ 10000 → Alarming p xs
+    → 10000 ≤ min (p .timers .alarm) 9999 + totalOf (p .latest .counter) xs → 11000 ≤ p .timers .alarm + most
+    → AlarmWithin most p xs
+waits p [] most t a h m = absurd (omega (arith, h))
+waits p (x ∷ xs) most t a h m =
+    split (p .timers .alarm + gap p x) 10000
+    (λ l.
+    let on = counts-on p x xs a l in
+    later most p x xs (omega (arith, l, m))
+    (waits (sampledOf p x) xs (most - gap p x) (omega (arith, on, l)) (a .3)
+    (omega (arith, on, l, h, total-from p x xs)) (omega (arith, on, l, m))))
+    (λ l. now-goes most p x xs a l (omega (arith, t, m)))
+
+-- in every 11 s: from any sound state, a run of 10 s or more has an alarm in its first 11 s
+pub alarm-in-11-s : (s : State) (xs : List Sample) → soundOf s ≡ true → Alarming (s .pack) xs
+    → 10000 ≤ totalOf (s .pack .latest .counter) xs → AlarmWithin 11000 (s .pack) xs
+alarm-in-11-s s xs h a t = waits (s .pack) xs 11000 (facts s h .alarm) a (omega (arith, t)) (omega arith)
+
+set-up-timer : (u : Setup) (first : Sample) → packOf u first .timers .alarm ≡ 10000
+unfolding packOf
+set-up-timer u first = refl
+
+set-up-mode : (u : Setup) (first x : Sample) → movedOf (packOf u first) x .host .AlarmMode ≡ false
+unfolding packOf movedOf
+set-up-mode u first x = refl
+
+-- at once for the first: at any sample after set-up at which a bit is set
+pub first-at-once : (u : Setup) (first x : Sample) → anyAlarm (movedOf (packOf u first) x) ≡ true → alarmGoes (movedOf (packOf u first) x) ≡ true
+first-at-once u first x a =
+    let start : packOf u first .timers .alarm ≡ 10000 = set-up-timer u first in
+    timer-decides (movedOf (packOf u first) x) a (set-up-mode u first x)
+    ∙ le-leb 10000 (movedOf (packOf u first) x .timers .alarm) (omega (arith, moved-alarm (packOf u first) x, start))
