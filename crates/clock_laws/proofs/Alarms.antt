@@ -4,7 +4,6 @@ use Prim.Native.Nat.{ℕ, _+_, _-_, _≤_, _<_, min}
 use mathlib.Core.Bool.{Bool, true, false, cond, not, _&&_}
 use mathlib.Core.List.{List, [], _∷_, _++_}
 use mathlib.Core.Path.{_≡_, refl, ap, _∙_, sym, subst}
-use native.Mathlib.Decide.{decLt}
 use native.Mathlib.Omega.{arith}
 use borrow.Author.Tests.{le-leb, lt-leb}
 use lib.Dec.{leb}
@@ -13,6 +12,7 @@ use Rattle.clock.specs.Sample.{movedOf}
 use Rattle.clock_laws.specs.Run.{runOf, totalOf, Alarming, AlarmWithin}
 use Rattle.clock_laws.proofs.Steps.{gap, moved-alarm, sampled-alarm, total-from}
 use Rattle.gauge.specs.Status.{anyAlarm}
+use Rattle.clock_laws.proofs.Cases.{split}
 use Rattle.pack.proofs.Soundness.{facts}
 use Rattle.pack.specs.SetUp.{packOf}
 use Rattle.pack.specs.Sound.{soundOf}
@@ -20,13 +20,6 @@ use Rattle.pack.specs.declared.Pack.{Pack}
 use Rattle.pack.specs.declared.Sample.{Sample}
 use Rattle.pack.specs.declared.Setup.{Setup}
 use Rattle.pack.specs.declared.State.{State}
-
-by-dec : {P : Type 0} (x y : ℕ) → Dec (x < y) → (x < y → P) → (y ≤ x → P) → P
-by-dec x y (yes h) f g = f h
-by-dec x y (no n) f g = g (omega (arith, n))
-
-pub split : {P : Type 0} (x y : ℕ) → (x < y → P) → (y ≤ x → P) → P
-split x y f g = by-dec x y (decLt x y) f g
 
 -- with a bit set and ALARM_MODE clear the timer alone decides
 pub timer-decides : (q : Pack) → anyAlarm q ≡ true → q .host .AlarmMode ≡ false → alarmGoes q ≡ leb 10000 (q .timers .alarm)

@@ -9,6 +9,7 @@ use borrow.Author.Tests.{leb-true}
 use Rattle.clock.specs.Broadcast.{alarmGoes, chargerGoes, sampledOf}
 use Rattle.clock.specs.Sample.{movedOf}
 use Rattle.clock_laws.specs.Run.{runOf, totalOf}
+use Rattle.clock_laws.proofs.Cases.{no-more}
 use Rattle.clock_laws.proofs.Steps.{gap, moved-alarm, moved-charger, sampled-alarm, sampled-charger, total-from}
 use Rattle.gauge.specs.Status.{anyAlarm}
 use Rattle.pack.specs.declared.Pack.{Pack}
@@ -32,10 +33,6 @@ module _ (goes : Pack → Bool) (mark : ℕ) (timer : Pack → ℕ) (by : Timed 
   pub apart : (p : Pack) (x : Sample) (ys : List Sample) (y : Sample) → goes (movedOf p x) ≡ true
       → goes (movedOf (runOf (sampledOf p x) ys) y) ≡ true → mark ≤ totalOf (x .counter) (ys ++ y ∷ [])
   apart p x ys y g h = omega (arith, reached (sampledOf p x) ys y h, total-from p x (ys ++ y ∷ []), by .restarts p x g)
-
-no-more : (b : Bool) (n : ℕ) → cond b 0 n ≤ n
-no-more true n = omega arith
-no-more false n = omega arith
 
 last : (a b : Bool) → a && b ≡ true → b ≡ true
 last true b h = h

@@ -4,7 +4,6 @@ use Prim.Native.Nat.{ℕ, zero, suc, _+_, _-_, _*_, _<_, _≤_, min}
 use mathlib.Core.Bool.{Bool, true, false, cond}
 use mathlib.Core.List.{List, [], _∷_}
 use mathlib.Core.Path.{_≡_, refl, ap, _∙_, sym}
-use native.Mathlib.Decide.{decLt}
 use native.Mathlib.Nat.{mul-le-mul-right}
 use native.Mathlib.Omega.{arith}
 use borrow.Author.Tests.{lt-ltb, le-ltb, le-leb, lt-leb}
@@ -16,19 +15,13 @@ use Rattle.clock.proofs.Charge.{charge-held}
 use Rattle.clock.specs.Broadcast.{sampledOf}
 use Rattle.clock.specs.Sample.{elapsedOf, chargeAfter, movedOf}
 use Rattle.clock_laws.specs.Run.{runOf, heldTo, chargeOver, Signed16}
+use Rattle.clock_laws.proofs.Cases.{split}
 use Rattle.pack.proofs.Conditions.{served}
 use Rattle.pack.specs.SetUp.{packOf, setUpRefused}
 use Rattle.pack.specs.declared.Pack.{Pack}
 use Rattle.pack.specs.declared.Sample.{Sample}
 use Rattle.pack.specs.declared.Setup.{Setup}
 use Rattle.words.specs.Capacity.{milliampMs}
-
-by-dec : {P : Type 0} (x y : ℕ) → Dec (x < y) → (x < y → P) → (y ≤ x → P) → P
-by-dec x y (yes h) f g = f h
-by-dec x y (no n) f g = g (omega (arith, n))
-
-split : {P : Type 0} (x y : ℕ) → (x < y → P) → (y ≤ x → P) → P
-split x y f g = by-dec x y (decLt x y) f g
 
 -- a number of 0 or above is held to the top
 held-up : (top n : ℕ) → pos (min top n) ≡ heldTo (pos top) (pos n)

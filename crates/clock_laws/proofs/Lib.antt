@@ -1,3 +1,4 @@
+pub mod Cases
 pub mod Steps
 pub mod Sound
 pub mod Elapsed

@@ -1,7 +1,7 @@
 -- Runs of accepted samples: the pack after them, the time they take, their currents and the charge that flows.
 -- Assumes nothing.
 use Prim.Native.Nat.{ℕ, _+_, _≤_}
-use mathlib.Core.Bool.{Bool, true, false, cond}
+use mathlib.Core.Bool.{true, false, cond}
 use mathlib.Core.List.{List, [], _∷_, _++_}
 use mathlib.Core.Path.{_≡_}
 use lib.IntN.{ℤ, pos, _+ℤ_, _*ℤ_}
@@ -9,19 +9,25 @@ use lib.ListN.{take}
 use lib.Signed.{ltZ}
 use mir.Syntax.{w16}
 use mir.Val.{SFits}
-use Rattle.clock.specs.Broadcast.{alarmGoes, sampledOf}
+use Rattle.clock.specs.Broadcast.{alarmGoes, sampledOf, sampleOf}
 use Rattle.clock.specs.Sample.{elapsedOf, movedOf}
 use Rattle.gauge.specs.Status.{anyAlarm}
 use Rattle.pack.specs.SetUp.{latestOf}
 use Rattle.pack.specs.declared.Kept.{Kept}
 use Rattle.pack.specs.declared.Pack.{Pack}
 use Rattle.pack.specs.declared.Sample.{Sample}
+use Rattle.pack.specs.declared.State.{State}
 use Rattle.words.specs.Capacity.{milliampMs}
 
 -- the pack after a run of accepted samples, the oldest first
 abbrev pub runOf : Pack → List Sample → Pack
 runOf p [] = p
 runOf p (x ∷ xs) = runOf (sampledOf p x) xs
+
+-- the state after samples called one after another, each with room for n bytes
+abbrev pub stateAfter : ℕ → State → List Sample → State
+stateAfter n s [] = s
+stateAfter n s (x ∷ xs) = stateAfter n (sampleOf s x n .state) xs
 
 -- how long a run takes from a counter reading on: the sum of what elapsed before each of its samples
 abbrev pub totalOf : ℕ → List Sample → ℕ
