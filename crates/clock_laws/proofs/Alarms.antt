@@ -1,15 +1,15 @@
 -- While an alarm bit stays set, an alarm goes in every 11 s.
 -- Assumes nothing.
 use Prim.Native.Nat.{ℕ, _+_, _-_, _≤_, _<_, min}
-use mathlib.Core.Bool.{Bool, true, false, cond, not, _&&_}
+use mathlib.Core.Bool.{Bool, true, false, cond}
 use mathlib.Core.List.{List, [], _∷_, _++_}
-use mathlib.Core.Path.{_≡_, refl, ap, _∙_, sym, subst}
+use mathlib.Core.Path.{_≡_, refl, ap, _∙_}
 use native.Mathlib.Omega.{arith}
 use borrow.Author.Tests.{le-leb, lt-leb}
 use lib.Dec.{leb}
 use Rattle.clock.specs.Broadcast.{alarmGoes, sampledOf}
 use Rattle.clock.specs.Sample.{movedOf}
-use Rattle.clock_laws.specs.Run.{runOf, totalOf, Alarming, AlarmWithin}
+use Rattle.clock_laws.specs.Run.{totalOf, Alarming, AlarmWithin}
 use Rattle.clock_laws.proofs.Steps.{gap, moved-alarm, sampled-alarm, total-from}
 use Rattle.gauge.specs.Status.{anyAlarm}
 use Rattle.clock_laws.proofs.Cases.{split}

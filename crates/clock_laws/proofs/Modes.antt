@@ -1,9 +1,9 @@
 -- While ALARM_MODE is set no alarm goes, and it clears itself; while CHARGER_MODE is set no charger word goes.
 -- Assumes nothing.
-use Prim.Native.Nat.{ℕ, _+_, _-_, _≤_, _<_}
-use mathlib.Core.Bool.{Bool, true, false, not, _&&_}
+use Prim.Native.Nat.{_-_, _≤_, _<_}
+use mathlib.Core.Bool.{Bool, true, false, _&&_}
 use mathlib.Core.List.{List, [], _∷_}
-use mathlib.Core.Path.{_≡_, refl, ap, _∙_}
+use mathlib.Core.Path.{_≡_, refl, _∙_}
 use native.Mathlib.Omega.{arith}
 use Rattle.clock.specs.Broadcast.{alarmGoes, chargerGoes, sampledOf}
 use Rattle.clock.specs.Sample.{movedOf}

@@ -10,7 +10,6 @@ use lib.ListN.{length, drop}
 use Rattle.clock.proofs.Sending.{four-each, at-most-16}
 use Rattle.clock.specs.Broadcast.{broadcastOf, sampleOf, servedSample, refusedSample, roomAfter}
 use Rattle.clock.specs.Sample.{movedOf}
-use Rattle.clock.specs.declared.Sampled.{Sampled}
 use Rattle.clock_laws.proofs.Sound.{outcome}
 use Rattle.frame.proofs.Rooms.{placed-rest}
 use Rattle.frame.specs.Transactions.{placed}
