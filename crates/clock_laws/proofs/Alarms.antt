@@ -9,17 +9,16 @@ use borrow.Author.Tests.{le-leb, lt-leb}
 use lib.Dec.{leb}
 use Rattle.clock.specs.Broadcast.{alarmGoes, sampledOf}
 use Rattle.clock.specs.Sample.{movedOf}
+use Rattle.clock_laws.specs.Promises.{AlarmIn11s, FirstAtOnce}
 use Rattle.clock_laws.specs.Run.{totalOf, Alarming, AlarmWithin}
 use Rattle.clock_laws.proofs.Steps.{gap, moved-alarm, sampled-alarm, total-from}
 use Rattle.gauge.specs.Status.{anyAlarm}
 use Rattle.clock_laws.proofs.Cases.{split}
 use Rattle.pack.proofs.Soundness.{facts}
 use Rattle.pack.specs.SetUp.{packOf}
-use Rattle.pack.specs.Sound.{soundOf}
 use Rattle.pack.specs.declared.Pack.{Pack}
 use Rattle.pack.specs.declared.Sample.{Sample}
 use Rattle.pack.specs.declared.Setup.{Setup}
-use Rattle.pack.specs.declared.State.{State}
 
 -- with a bit set and ALARM_MODE clear the timer alone decides
 pub timer-decides : (q : Pack) → anyAlarm q ≡ true → q .host .AlarmMode ≡ false → alarmGoes q ≡ leb 10000 (q .timers .alarm)
@@ -43,7 +42,7 @@ counts-on : (p : Pack) (x : Sample) (xs : List Sample) → Alarming p (x ∷ xs)
     → sampledOf p x .timers .alarm ≡ p .timers .alarm + gap p x
 counts-on p x xs (any, mode, near, rest) h =
     let e : min 10000 (p .timers .alarm + gap p x) ≡ p .timers .alarm + gap p x = omega arith in
-    let quiet = timer-decides (movedOf p x) any mode ∙ lt-leb 10000 (movedOf p x .timers .alarm) (omega (arith, moved-alarm p x, h)) in
+    let quiet : alarmGoes (movedOf p x) ≡ false = timer-decides (movedOf p x) any mode ∙ lt-leb 10000 (movedOf p x .timers .alarm) (omega (arith, moved-alarm p x, h)) in
     sampled-alarm p x ∙ ap (λ (b : Bool). cond b 0 (movedOf p x .timers .alarm)) quiet ∙ moved-alarm p x ∙ e
 
 -- what the timer lacks to its mark, and one gap more
@@ -61,8 +60,7 @@ waits p (x ∷ xs) most t a h m =
     (λ l. now-goes most p x xs a l (omega (arith, t, m)))
 
 -- in every 11 s: from any sound state, a run of 10 s or more has an alarm in its first 11 s
-pub alarm-in-11-s : (s : State) (xs : List Sample) → soundOf s ≡ true → Alarming (s .pack) xs
-    → 10000 ≤ totalOf (s .pack .latest .counter) xs → AlarmWithin 11000 (s .pack) xs
+pub alarm-in-11-s : AlarmIn11s
 alarm-in-11-s s xs h a t = waits (s .pack) xs 11000 (facts s h .alarm) a (omega (arith, t)) (omega arith)
 
 set-up-timer : (u : Setup) (first : Sample) → packOf u first .timers .alarm ≡ 10000
@@ -74,7 +72,7 @@ unfolding packOf movedOf
 set-up-mode u first x = refl
 
 -- at once for the first: at any sample after set-up at which a bit is set
-pub first-at-once : (u : Setup) (first x : Sample) → anyAlarm (movedOf (packOf u first) x) ≡ true → alarmGoes (movedOf (packOf u first) x) ≡ true
+pub first-at-once : FirstAtOnce
 first-at-once u first x a =
     let start : packOf u first .timers .alarm ≡ 10000 = set-up-timer u first in
     timer-decides (movedOf (packOf u first) x) a (set-up-mode u first x)

@@ -8,6 +8,7 @@ use native.Mathlib.Omega.{arith}
 use borrow.Author.Tests.{leb-true}
 use Rattle.clock.specs.Broadcast.{alarmGoes, chargerGoes, sampledOf}
 use Rattle.clock.specs.Sample.{movedOf}
+use Rattle.clock_laws.specs.Promises.{AlarmsApart, ChargerWordsApart, ApartBy}
 use Rattle.clock_laws.specs.Run.{runOf, totalOf}
 use Rattle.clock_laws.proofs.Cases.{no-more}
 use Rattle.clock_laws.proofs.Steps.{gap, moved-alarm, moved-charger, sampled-alarm, sampled-charger, total-from}
@@ -16,10 +17,10 @@ use Rattle.pack.specs.declared.Pack.{Pack}
 use Rattle.pack.specs.declared.Sample.{Sample}
 
 -- words that go by a timer: a sample raises it by what elapsed at the most, they go only where that brings it to its mark, and then it restarts
-pub record Timed (goes : Pack → Bool) (mark : ℕ) (timer : Pack → ℕ) : Type 0 where
-  pub rises : (p : Pack) (x : Sample) → timer (sampledOf p x) ≤ timer p + gap p x
-  pub marked : (p : Pack) (x : Sample) → goes (movedOf p x) ≡ true → mark ≤ timer p + gap p x
-  pub restarts : (p : Pack) (x : Sample) → goes (movedOf p x) ≡ true → timer (sampledOf p x) ≡ 0
+record Timed (goes : Pack → Bool) (mark : ℕ) (timer : Pack → ℕ) : Type 0 where
+  rises : (p : Pack) (x : Sample) → timer (sampledOf p x) ≤ timer p + gap p x
+  marked : (p : Pack) (x : Sample) → goes (movedOf p x) ≡ true → mark ≤ timer p + gap p x
+  restarts : (p : Pack) (x : Sample) → goes (movedOf p x) ≡ true → timer (sampledOf p x) ≡ 0
 
 module _ (goes : Pack → Bool) (mark : ℕ) (timer : Pack → ℕ) (by : Timed goes mark timer) where
   -- from any pack: the timer and the time of the run come to the mark
@@ -30,8 +31,7 @@ module _ (goes : Pack → Bool) (mark : ℕ) (timer : Pack → ℕ) (by : Timed 
       omega (arith, reached (sampledOf p x) ys y g, total-from p x (ys ++ y ∷ []), by .rises p x)
 
   -- from one sample at which they go to another
-  pub apart : (p : Pack) (x : Sample) (ys : List Sample) (y : Sample) → goes (movedOf p x) ≡ true
-      → goes (movedOf (runOf (sampledOf p x) ys) y) ≡ true → mark ≤ totalOf (x .counter) (ys ++ y ∷ [])
+  apart : ApartBy mark goes
   apart p x ys y g h = omega (arith, reached (sampledOf p x) ys y h, total-from p x (ys ++ y ∷ []), by .restarts p x g)
 
 last : (a b : Bool) → a && b ≡ true → b ≡ true
@@ -46,7 +46,7 @@ charger-mark : (q : Pack) → chargerGoes q ≡ true → 30000 ≤ q .timers .ch
 unfolding chargerGoes
 charger-mark q h = leb-true 30000 (q .timers .charger) (last (not (q .host .ChargerMode)) _ h)
 
-pub alarms-timed : Timed alarmGoes 10000 (λ p. p .timers .alarm)
+alarms-timed : Timed alarmGoes 10000 (λ p. p .timers .alarm)
 alarms-timed =
     record {
       rises = λ p x. omega (arith, sampled-alarm p x, moved-alarm p x, no-more (alarmGoes (movedOf p x)) (movedOf p x .timers .alarm));
@@ -54,7 +54,7 @@ alarms-timed =
       restarts = λ p x g. sampled-alarm p x ∙ ap (λ (b : Bool). cond b 0 (movedOf p x .timers .alarm)) g;
     }
 
-pub charger-words-timed : Timed chargerGoes 30000 (λ p. p .timers .charger)
+charger-words-timed : Timed chargerGoes 30000 (λ p. p .timers .charger)
 charger-words-timed =
     record {
       rises = λ p x. omega (
@@ -74,11 +74,9 @@ charger-words-timed =
     }
 
 -- no two alarms go within 10,000 ms of each other
-pub alarms-apart : (p : Pack) (x : Sample) (ys : List Sample) (y : Sample) → alarmGoes (movedOf p x) ≡ true
-    → alarmGoes (movedOf (runOf (sampledOf p x) ys) y) ≡ true → 10000 ≤ totalOf (x .counter) (ys ++ y ∷ [])
+pub alarms-apart : AlarmsApart
 alarms-apart = apart alarmGoes 10000 (λ p. p .timers .alarm) alarms-timed
 
 -- no two charger words within 30,000 ms
-pub charger-words-apart : (p : Pack) (x : Sample) (ys : List Sample) (y : Sample) → chargerGoes (movedOf p x) ≡ true
-    → chargerGoes (movedOf (runOf (sampledOf p x) ys) y) ≡ true → 30000 ≤ totalOf (x .counter) (ys ++ y ∷ [])
+pub charger-words-apart : ChargerWordsApart
 charger-words-apart = apart chargerGoes 30000 (λ p. p .timers .charger) charger-words-timed

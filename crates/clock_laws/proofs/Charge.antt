@@ -1,7 +1,6 @@
 -- Charge is the fold, over all samples, of current × elapsed held between 0 and full, in integers.
 -- Assumes nothing.
 use Prim.Native.Nat.{ℕ, zero, suc, _+_, _-_, _*_, _<_, _≤_, min}
-use mathlib.Core.Bool.{false}
 use mathlib.Core.List.{List, [], _∷_}
 use mathlib.Core.Path.{_≡_, refl, ap, _∙_, sym}
 use native.Mathlib.Nat.{mul-le-mul-right}
@@ -14,13 +13,13 @@ use mir.ValLaws.{toZ-ofZ}
 use Rattle.clock.proofs.Charge.{charge-held}
 use Rattle.clock.specs.Broadcast.{sampledOf}
 use Rattle.clock.specs.Sample.{elapsedOf, chargeAfter, movedOf}
+use Rattle.clock_laws.specs.Promises.{ChargeSinceSetUp}
 use Rattle.clock_laws.specs.Run.{runOf, heldTo, chargeOver, Signed16}
 use Rattle.clock_laws.proofs.Cases.{split}
 use Rattle.pack.proofs.Conditions.{served}
-use Rattle.pack.specs.SetUp.{packOf, setUpRefused}
+use Rattle.pack.specs.SetUp.{packOf}
 use Rattle.pack.specs.declared.Pack.{Pack}
 use Rattle.pack.specs.declared.Sample.{Sample}
-use Rattle.pack.specs.declared.Setup.{Setup}
 use Rattle.words.specs.Capacity.{milliampMs}
 
 -- a number of 0 or above is held to the top
@@ -71,7 +70,6 @@ charge-run p (x ∷ xs) l (f, fs) =
     ∙ ap (λ (z : ℤ). heldTo (pos (milliampMs (p .tank .full))) (pos (p .tank .charge) +ℤ z *ℤ pos e)) (toZ-ofZ w16 (x .current) f))
 
 -- since a served set-up: from its remaining capacity on
-pub charge-since-set-up : (u : Setup) (first : Sample) (xs : List Sample) → setUpRefused u ≡ false → Signed16 xs
-    → pos (runOf (packOf u first) xs .tank .charge) ≡ chargeOver (u .full) (pos (milliampMs (u .remaining))) (first .counter) xs
+pub charge-since-set-up : ChargeSinceSetUp
 unfolding packOf
 charge-since-set-up u first xs h f = charge-run (packOf u first) xs (mul-le-mul-right 3600000 (served u h .remaining)) f

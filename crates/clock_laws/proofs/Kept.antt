@@ -8,12 +8,12 @@ use lib.ListN.{take, length-take}
 use lib.Seq.{take-take, take-all}
 use Rattle.clock.specs.Broadcast.{sampledOf}
 use Rattle.clock.specs.Sample.{movedOf}
+use Rattle.clock_laws.specs.Promises.{KeptSinceSetUp}
 use Rattle.clock_laws.specs.Run.{runOf, currentsOf, samplesOf}
 use Rattle.clock_laws.proofs.Cases.{split}
 use Rattle.pack.specs.SetUp.{packOf, latestOf}
 use Rattle.pack.specs.declared.Pack.{Pack}
 use Rattle.pack.specs.declared.Sample.{Sample}
-use Rattle.pack.specs.declared.Setup.{Setup}
 
 shorter : (m n : ℕ) (l : List ℕ) → take m (take n l) ≡ take (min m n) l
 shorter m n l =
@@ -37,7 +37,6 @@ kept-run p [] all e = e
 kept-run p (x ∷ xs) all e = kept-run (sampledOf p x) xs (latestOf x .current ∷ all) (newest (p .kept .count) (latestOf x .current) (p .kept .currents) all e)
 
 -- after set-up and any samples: exactly the last 60 currents, set-up's own first
-pub kept-since-set-up : (u : Setup) (first : Sample) (xs : List Sample)
-    → samplesOf (runOf (packOf u first) xs .kept) ≡ take 60 (currentsOf (latestOf first .current ∷ []) xs)
+pub kept-since-set-up : KeptSinceSetUp
 unfolding packOf
 kept-since-set-up u first xs = kept-run (packOf u first) xs (latestOf first .current ∷ []) refl

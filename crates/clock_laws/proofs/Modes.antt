@@ -1,27 +1,26 @@
 -- While ALARM_MODE is set no alarm goes, and it clears itself; while CHARGER_MODE is set no charger word goes.
 -- Assumes nothing.
-use Prim.Native.Nat.{_-_, _≤_, _<_}
+use Prim.Native.Nat.{_-_}
 use mathlib.Core.Bool.{Bool, true, false, _&&_}
 use mathlib.Core.List.{List, [], _∷_}
 use mathlib.Core.Path.{_≡_, refl, _∙_}
 use native.Mathlib.Omega.{arith}
 use Rattle.clock.specs.Broadcast.{alarmGoes, chargerGoes, sampledOf}
 use Rattle.clock.specs.Sample.{movedOf}
+use Rattle.clock_laws.specs.Promises.{AlarmSilent, HoldLasts, HoldEnds, ClearsItself, ChargerSilent}
 use Rattle.clock_laws.specs.Run.{runOf, totalOf}
 use Rattle.clock_laws.proofs.Sound.{run-sound}
 use Rattle.clock_laws.proofs.Steps.{moved-mode, sampled-hold, sampled-mode, total-from}
 use Rattle.pack.proofs.Soundness.{facts}
-use Rattle.pack.specs.Sound.{soundOf}
 use Rattle.pack.specs.declared.Pack.{Pack}
 use Rattle.pack.specs.declared.Sample.{Sample}
-use Rattle.pack.specs.declared.State.{State}
 
 middle : (a b : Bool) → a && false && b ≡ false
 middle true b = refl
 middle false b = refl
 
 -- while ALARM_MODE is set no alarm goes
-pub alarm-silent : (q : Pack) → q .host .AlarmMode ≡ true → alarmGoes q ≡ false
+pub alarm-silent : AlarmSilent
 unfolding alarmGoes
 alarm-silent q m = simp (m, middle)
 
@@ -31,13 +30,11 @@ hold-counts p [] = omega arith
 hold-counts p (x ∷ xs) = omega (arith, hold-counts (sampledOf p x) xs, total-from p x xs, sampled-hold p x)
 
 -- ALARM_MODE is clear once the hold has passed
-pub hold-ends : (s : State) (xs : List Sample) → soundOf s ≡ true → s .pack .timers .hold ≤ totalOf (s .pack .latest .counter) xs
-    → runOf (s .pack) xs .host .AlarmMode ≡ false
+pub hold-ends : HoldEnds
 hold-ends s xs h l = facts _ (run-sound s xs h) .ended (omega (arith, hold-counts (s .pack) xs, l))
 
 -- so 60,000 ms after the write at the latest
-pub clears-itself : (s : State) (xs : List Sample) → soundOf s ≡ true → 60000 ≤ totalOf (s .pack .latest .counter) xs
-    → runOf (s .pack) xs .host .AlarmMode ≡ false
+pub clears-itself : ClearsItself
 clears-itself s xs h l = hold-ends s xs h (omega (arith, l, facts s h .hold))
 
 not-clear : (b : Bool) → (b ≡ false → ⊥) → b ≡ true
@@ -45,8 +42,7 @@ not-clear true n = refl
 not-clear false n = absurd (n refl)
 
 -- and not before the hold has passed
-pub hold-lasts : (s : State) (xs : List Sample) → soundOf s ≡ true → totalOf (s .pack .latest .counter) xs < s .pack .timers .hold
-    → runOf (s .pack) xs .host .AlarmMode ≡ true
+pub hold-lasts : HoldLasts
 hold-lasts s xs h l =
     not-clear (runOf (s .pack) xs .host .AlarmMode) (λ c. omega (arith, facts _ (run-sound s xs h) .clear c, hold-counts (s .pack) xs, l))
 
@@ -55,11 +51,10 @@ pub mode-stays : (p : Pack) (xs : List Sample) → runOf p xs .host .ChargerMode
 mode-stays p [] = refl
 mode-stays p (x ∷ xs) = mode-stays (sampledOf p x) xs ∙ sampled-mode p x
 
--- while CHARGER_MODE is set no charger word goes
-pub charger-silent : (q : Pack) → q .host .ChargerMode ≡ true → chargerGoes q ≡ false
+quiet : (q : Pack) → q .host .ChargerMode ≡ true → chargerGoes q ≡ false
 unfolding chargerGoes
-charger-silent q m = simp m
+quiet q m = simp m
 
--- at no sample of a run
-pub charger-silent-run : (p : Pack) (ys : List Sample) (y : Sample) → p .host .ChargerMode ≡ true → chargerGoes (movedOf (runOf p ys) y) ≡ false
-charger-silent-run p ys y m = charger-silent (movedOf (runOf p ys) y) (moved-mode (runOf p ys) y ∙ mode-stays p ys ∙ m)
+-- while CHARGER_MODE is set no charger word goes, at no sample of a run
+pub charger-silent : ChargerSilent
+charger-silent p ys y m = quiet (movedOf (runOf p ys) y) (moved-mode (runOf p ys) y ∙ mode-stays p ys ∙ m)

@@ -10,6 +10,7 @@ use lib.ListN.{length, drop}
 use Rattle.clock.proofs.Sending.{four-each, at-most-16}
 use Rattle.clock.specs.Broadcast.{broadcastOf, sampleOf, servedSample, refusedSample, roomAfter}
 use Rattle.clock.specs.Sample.{movedOf}
+use Rattle.clock_laws.specs.Promises.{FourBytesEach, SixteenAtMost, RestStays}
 use Rattle.clock_laws.proofs.Sound.{outcome}
 use Rattle.frame.proofs.Rooms.{placed-rest}
 use Rattle.frame.specs.Transactions.{placed}
@@ -18,11 +19,11 @@ use Rattle.pack.specs.declared.Sample.{Sample}
 use Rattle.pack.specs.declared.State.{State}
 
 -- the number of bytes is four times the number of messages
-pub four-bytes-each : (s : State) (x : Sample) (n : ℕ) → sampleOf s x n .length ≡ 4 * sampleOf s x n .messages
+pub four-bytes-each : FourBytesEach
 four-bytes-each s x n = outcome (λ r. r .length ≡ 4 * r .messages) s x n (λ answer. refl) (λ h. four-each (movedOf (s .pack) x))
 
 -- at most 16
-pub sixteen-at-most : (s : State) (x : Sample) (n : ℕ) → sampleOf s x n .length ≤ 16
+pub sixteen-at-most : SixteenAtMost
 sixteen-at-most s x n = outcome (λ r. r .length ≤ 16) s x n (λ answer. omega arith) (λ h. at-most-16 (movedOf (s .pack) x))
 
 -- the bytes past them stay, by the two tests
@@ -35,7 +36,6 @@ stays s x room false true = refl
 stays s x room false false = placed-rest (broadcastOf (movedOf (s .pack) x)) room
 
 -- bytes past them in the room stay
-pub rest-stays : (s : State) (x : Sample) (room : List ℕ)
-    → drop (sampleOf s x (length room) .length) (roomAfter s x room) ≡ drop (sampleOf s x (length room) .length) room
+pub rest-stays : RestStays
 unfolding sampleOf roomAfter
 rest-stays s x room = stays s x room (not (soundOf s)) (ltb (length room) 16)

@@ -11,6 +11,7 @@ use Rattle.clock.proofs.Charge.{charge-held}
 use Rattle.clock.specs.Broadcast.{alarmGoes, chargerGoes, restartedOf, sampledOf, sampleOf, servedSample, refusedSample}
 use Rattle.clock.specs.Sample.{elapsedOf, movedOf}
 use Rattle.clock.specs.declared.Sampled.{Sampled}
+use Rattle.clock_laws.specs.Promises.{SampleSound, ErrorStays, CallsRun}
 use Rattle.clock_laws.specs.Run.{runOf, stateAfter}
 use Rattle.clock_laws.proofs.Cases.{no-more}
 use Rattle.pack.proofs.Soundness.{facts, sound-of}
@@ -80,11 +81,11 @@ module _ (P : Sampled → Type 0) (s : State) (x : Sample) (n : ℕ) (refused : 
   outcome = sound-or (soundOf s) refl
 
 -- a sample on a sound state leaves a sound state, refused or not
-pub sample-sound : (s : State) (x : Sample) (n : ℕ) → soundOf s ≡ true → soundOf (sampleOf s x n .state) ≡ true
+pub sample-sound : SampleSound
 sample-sound s x n h = outcome (λ r. soundOf (r .state) ≡ true) s x n (λ answer. h) (sampled-sound s x)
 
 -- the error code stays
-pub error-stays : (s : State) (x : Sample) (n : ℕ) → sampleOf s x n .state .error ≡ s .error
+pub error-stays : ErrorStays
 error-stays s x n = outcome (λ r. r .state .error ≡ s .error) s x n (λ answer. refl) (λ h. refl)
 
 -- a sample on a sound state with room enough is accepted: the step of a run
@@ -98,8 +99,7 @@ run-sound s [] h = h
 run-sound s (x ∷ xs) h = run-sound (record { error = s .error; pack = sampledOf (s .pack) x }) xs (sampled-sound s x h)
 
 -- samples called one after another on a sound state, with room enough, are a run
-pub calls-run : (n : ℕ) (s : State) (xs : List Sample) → soundOf s ≡ true → 16 ≤ n
-    → stateAfter n s xs ≡ record { error = s .error; pack = runOf (s .pack) xs }
+pub calls-run : CallsRun
 calls-run n s [] h l = refl
 calls-run n s (x ∷ xs) h l =
     ap (λ (r : Sampled). stateAfter n (r .state) xs) (accepted s x n h l)

@@ -1,6 +1,6 @@
 -- Runs of accepted samples: the pack after them, the time they take, their currents and the charge that flows.
 -- Assumes nothing.
-use Prim.Native.Nat.{ℕ, _+_, _≤_}
+use Prim.Native.Nat.{ℕ, _+_, _-_, _%_, _^_, _≤_, _<_}
 use mathlib.Core.Bool.{true, false, cond}
 use mathlib.Core.List.{List, [], _∷_, _++_}
 use mathlib.Core.Path.{_≡_}
@@ -33,6 +33,11 @@ stateAfter n s (x ∷ xs) = stateAfter n (sampleOf s x n .state) xs
 abbrev pub totalOf : ℕ → List Sample → ℕ
 totalOf counter [] = 0
 totalOf counter (x ∷ xs) = elapsedOf (x .counter) counter + totalOf (x .counter) xs
+
+-- a run from one true time to another, each sample less than 2^32 ms after what came before, read off a 32-bit counter
+abbrev pub Counted : ℕ → List Sample → ℕ → Type 0
+Counted start [] end = start ≡ end
+Counted start (x ∷ xs) end = (time : ℕ) × (start ≤ time) × (time - start < 2 ^ 32) × (x .counter ≡ time % 2 ^ 32) × Counted time xs end
 
 -- every current of a run before those that came earlier: the newest first, without end
 abbrev pub currentsOf : List ℕ → List Sample → List ℕ
