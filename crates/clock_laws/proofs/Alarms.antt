@@ -10,7 +10,7 @@ use lib.Dec.{leb}
 use Rattle.clock.specs.Broadcast.{alarmGoes, sampledOf}
 use Rattle.clock.specs.Sample.{movedOf}
 use Rattle.clock_laws.specs.Promises.{AlarmIn11s, FirstAtOnce}
-use Rattle.clock_laws.specs.Run.{totalOf, Alarming, AlarmWithin}
+use Rattle.clock_laws.specs.Run.{runOf, totalOf, Alarming, AlarmWithin, NoAlarm}
 use Rattle.clock_laws.proofs.Steps.{gap, moved-alarm, sampled-alarm, total-from}
 use Rattle.gauge.specs.Status.{anyAlarm}
 use Rattle.clock_laws.proofs.Cases.{split}
@@ -37,13 +37,16 @@ now-goes : (most : ℕ) (p : Pack) (x : Sample) (xs : List Sample) → Alarming 
 now-goes most p x xs (any, mode, near, rest) h m =
     ([], x, xs, refl, timer-decides (movedOf p x) any mode ∙ le-leb 10000 (movedOf p x .timers .alarm) (omega (arith, moved-alarm p x, h)), omega (arith, near, m))
 
--- it hasn't: it counts on
-counts-on : (p : Pack) (x : Sample) (xs : List Sample) → Alarming p (x ∷ xs) → p .timers .alarm + gap p x < 10000
+-- where none goes the timer counts on
+quiet : (p : Pack) (x : Sample) → alarmGoes (movedOf p x) ≡ false → sampledOf p x .timers .alarm ≡ min 10000 (p .timers .alarm + gap p x)
+quiet p x n = sampled-alarm p x ∙ ap (λ (b : Bool). cond b 0 (movedOf p x .timers .alarm)) n ∙ moved-alarm p x
+
+-- it hasn't: it comes nearer by what elapsed
+nearer : (p : Pack) (x : Sample) (xs : List Sample) → Alarming p (x ∷ xs) → p .timers .alarm + gap p x < 10000
     → sampledOf p x .timers .alarm ≡ p .timers .alarm + gap p x
-counts-on p x xs (any, mode, near, rest) h =
-    let e : min 10000 (p .timers .alarm + gap p x) ≡ p .timers .alarm + gap p x = omega arith in
-    let quiet : alarmGoes (movedOf p x) ≡ false = timer-decides (movedOf p x) any mode ∙ lt-leb 10000 (movedOf p x .timers .alarm) (omega (arith, moved-alarm p x, h)) in
-    sampled-alarm p x ∙ ap (λ (b : Bool). cond b 0 (movedOf p x .timers .alarm)) quiet ∙ moved-alarm p x ∙ e
+nearer p x xs (any, mode, near, rest) h =
+    let low : movedOf p x .timers .alarm < 10000 = omega (arith, moved-alarm p x, h) in
+    omega (arith, h, quiet p x (timer-decides (movedOf p x) any mode ∙ lt-leb 10000 (movedOf p x .timers .alarm) low))
 
 -- what the timer lacks to its mark, and one gap more
 waits : (p : Pack) (xs : List Sample) (most : ℕ) → p .timers .alarm ≤ 10000 → Alarming p xs
@@ -53,7 +56,7 @@ waits p [] most t a h m = absurd (omega (arith, h))
 waits p (x ∷ xs) most t a h m =
     split (p .timers .alarm + gap p x) 10000
     (λ l.
-    let on = counts-on p x xs a l in
+    let on = nearer p x xs a l in
     later most p x xs (omega (arith, l, m))
     (waits (sampledOf p x) xs (most - gap p x) (omega (arith, on, l)) (a .3)
     (omega (arith, on, l, h, total-from p x xs)) (omega (arith, on, l, m))))
@@ -67,13 +70,14 @@ set-up-timer : (u : Setup) (first : Sample) → packOf u first .timers .alarm �
 unfolding packOf
 set-up-timer u first = refl
 
-set-up-mode : (u : Setup) (first x : Sample) → movedOf (packOf u first) x .host .AlarmMode ≡ false
-unfolding packOf movedOf
-set-up-mode u first x = refl
+-- until an alarm goes the timer stands
+stands : (p : Pack) (xs : List Sample) → p .timers .alarm ≡ 10000 → NoAlarm p xs → runOf p xs .timers .alarm ≡ 10000
+stands p [] t n = t
+stands p (x ∷ xs) t (n, ns) = stands (sampledOf p x) xs (omega (arith, t, quiet p x n)) ns
 
--- at once for the first: at any sample after set-up at which a bit is set
+-- so the first alarm goes at once
 pub first-at-once : FirstAtOnce
-first-at-once u first x a =
-    let start : packOf u first .timers .alarm ≡ 10000 = set-up-timer u first in
-    timer-decides (movedOf (packOf u first) x) a (set-up-mode u first x)
-    ∙ le-leb 10000 (movedOf (packOf u first) x .timers .alarm) (omega (arith, moved-alarm (packOf u first) x, start))
+first-at-once u first xs x n any mode =
+    let p = runOf (packOf u first) xs in
+    let t : p .timers .alarm ≡ 10000 = stands (packOf u first) xs (set-up-timer u first) n in
+    timer-decides (movedOf p x) any mode ∙ le-leb 10000 (movedOf p x .timers .alarm) (omega (arith, moved-alarm p x, t))

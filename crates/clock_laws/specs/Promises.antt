@@ -8,7 +8,7 @@ use lib.IntN.{pos}
 use lib.ListN.{length, take, drop}
 use Rattle.clock.specs.Broadcast.{alarmGoes, chargerGoes, sampledOf, sampleOf, roomAfter}
 use Rattle.clock.specs.Sample.{elapsedOf, movedOf}
-use Rattle.clock_laws.specs.Run.{runOf, stateAfter, totalOf, Counted, currentsOf, samplesOf, Signed16, chargeOver, Alarming, AlarmWithin}
+use Rattle.clock_laws.specs.Run.{runOf, stateAfter, totalOf, Counted, currentsOf, samplesOf, Signed16, chargeOver, Alarming, AlarmWithin, NoAlarm}
 use Rattle.gauge.specs.Status.{anyAlarm}
 use Rattle.pack.specs.SetUp.{packOf, latestOf, setUpRefused}
 use Rattle.pack.specs.Sound.{soundOf}
@@ -60,10 +60,12 @@ AlarmIn11s =
     (s : State) (xs : List Sample) → soundOf s ≡ true → Alarming (s .pack) xs
     → 10000 ≤ totalOf (s .pack .latest .counter) xs → AlarmWithin 11000 (s .pack) xs
 
--- at once for the first
+-- at once for the first: at the first sample since set-up at which a bit is set with ALARM_MODE clear
 abbrev pub FirstAtOnce : Type 0
 FirstAtOnce =
-    (u : Setup) (first x : Sample) → anyAlarm (movedOf (packOf u first) x) ≡ true → alarmGoes (movedOf (packOf u first) x) ≡ true
+    (u : Setup) (first : Sample) (xs : List Sample) (x : Sample) → NoAlarm (packOf u first) xs
+    → anyAlarm (movedOf (runOf (packOf u first) xs) x) ≡ true → movedOf (runOf (packOf u first) xs) x .host .AlarmMode ≡ false
+    → alarmGoes (movedOf (runOf (packOf u first) xs) x) ≡ true
 
 -- 6. from a sample at which words go to any later one at which they go, so many milliseconds pass at the least
 abbrev pub ApartBy : ℕ → (Pack → Bool) → Type 0

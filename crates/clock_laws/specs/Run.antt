@@ -70,6 +70,11 @@ Alarming p (x ∷ xs) =
     (anyAlarm (movedOf p x) ≡ true) × (movedOf p x .host .AlarmMode ≡ false) × (elapsedOf (x .counter) (p .latest .counter) ≤ 1000)
     × Alarming (sampledOf p x) xs
 
+-- no alarm goes at any sample of the run
+abbrev pub NoAlarm : Pack → List Sample → Type 0
+NoAlarm p [] = Unit {0}
+NoAlarm p (x ∷ xs) = (alarmGoes (movedOf p x) ≡ false) × NoAlarm (sampledOf p x) xs
+
 -- an alarm goes at some sample of the run, at most so many milliseconds from its start
 abbrev pub AlarmWithin : ℕ → Pack → List Sample → Type 0
 AlarmWithin most p xs =
