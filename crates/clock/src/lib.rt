@@ -1,12 +1,12 @@
 // Samples: charge, kept samples, bit 4, hold, timers and broadcasts.
 ghost use mathlib.Core.Path.{_≡_};
-ghost use mathlib.Core.Bool.{Bool, true, cond, not, _&&_};
-ghost use mathlib.Core.List.{List, _∷_, _++_};
+ghost use mathlib.Core.Bool.{true, cond};
+ghost use mathlib.Core.List.{_∷_};
 ghost use Prim.Native.Nat.{_+_, _-_, _*_, _≤_, _<_, min};
 ghost use lib.ListN.{length, take};
 ghost use lib.Seq.{sets};
-ghost use Rattle.clock.specs.Sample.{elapsedOf, chargeAfter, tankAfter, keptAfter, holdAfter, hostAfter, timersAfter, movedOf, Ready};
-ghost use Rattle.clock.specs.Broadcast.{alarmGoes, chargerGoes, alarmsOf, chargerWordsOf, broadcastOf, messagesOf, restartedOf, sampledOf, servedSample, sampleOf, roomAfter};
+ghost use Rattle.clock.specs.Sample.{elapsedOf, chargeAfter, tankAfter, keptAfter, hostAfter, timersAfter, movedOf, Ready};
+ghost use Rattle.clock.specs.Broadcast.{alarmGoes, chargerGoes, alarmsOf, chargerWordsOf, broadcastOf, restartedOf, servedSample, sampleOf, roomAfter};
 ghost use Rattle.frame.specs.Transactions.{placed};
 ghost use Rattle.pack.specs.Sound.{soundOf};
 ghost use Rattle.registers.specs.Registers.{Measured};

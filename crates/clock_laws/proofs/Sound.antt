@@ -3,7 +3,7 @@
 use Prim.Native.Nat.{ℕ, _+_, _-_, _≤_, min}
 use mathlib.Core.Bool.{Bool, true, false, cond, not, _&&_}
 use mathlib.Core.List.{List, [], _∷_}
-use mathlib.Core.Path.{_≡_, refl, sym}
+use mathlib.Core.Path.{_≡_, refl, ap, _∙_}
 use native.Mathlib.Omega.{arith}
 use borrow.Author.Tests.{eq-eqb, eqb-true, le-ltb, leb-false, not-false}
 use lib.Dec.{eqb, leb, ltb}
@@ -11,19 +11,16 @@ use Rattle.clock.proofs.Charge.{charge-held}
 use Rattle.clock.specs.Broadcast.{alarmGoes, chargerGoes, restartedOf, sampledOf, sampleOf, servedSample, refusedSample}
 use Rattle.clock.specs.Sample.{elapsedOf, movedOf}
 use Rattle.clock.specs.declared.Sampled.{Sampled}
-use Rattle.clock_laws.specs.Run.{runOf}
+use Rattle.clock_laws.specs.Promises.{SampleSound, ErrorStays, CallsRun}
+use Rattle.clock_laws.specs.Run.{runOf, stateAfter}
+use Rattle.clock_laws.proofs.Cases.{no-more}
 use Rattle.pack.proofs.Soundness.{facts, sound-of}
 use Rattle.pack.specs.SetUp.{latestOf}
 use Rattle.pack.specs.Sound.{soundOf}
 use Rattle.pack.specs.declared.Sample.{Sample}
 use Rattle.pack.specs.declared.State.{State}
 
--- a timer that restarts stays as low as it was
-restarts : (b : Bool) (timer most : ℕ) → timer ≤ most → cond b 0 timer ≤ most
-restarts true timer most h = omega arith
-restarts false timer most h = h
-
--- one that restarts where it reaches its mark stays below it
+-- a timer that restarts where it reaches its mark stays below it
 below-mark : (b : Bool) (timer mark : ℕ) → leb mark timer ≡ b → cond b 0 timer ≤ mark - 1
 below-mark true timer mark h = omega arith
 below-mark false timer mark h = omega (arith, leb-false mark timer h)
@@ -61,7 +58,7 @@ sampled-sound s x h =
       some = omega (arith, f .some);
       most = omega arith;
       hold = omega (arith, f .hold);
-      alarm = restarts (alarmGoes (movedOf (s .pack) x)) (min 10000 (t .alarm + e)) 10000 (omega arith);
+      alarm = omega (arith, no-more (alarmGoes (movedOf (s .pack) x)) (min 10000 (t .alarm + e)));
       charger = charger-low (s .pack .host .ChargerMode) (min 30000 (t .charger + e));
       stands = λ m. stood (chargerGoes (movedOf (s .pack) x)) (s .pack .host .ChargerMode) (min 30000 (t .charger + e)) m;
       error = f .error;
@@ -84,11 +81,11 @@ module _ (P : Sampled → Type 0) (s : State) (x : Sample) (n : ℕ) (refused : 
   outcome = sound-or (soundOf s) refl
 
 -- a sample on a sound state leaves a sound state, refused or not
-pub sample-sound : (s : State) (x : Sample) (n : ℕ) → soundOf s ≡ true → soundOf (sampleOf s x n .state) ≡ true
+pub sample-sound : SampleSound
 sample-sound s x n h = outcome (λ r. soundOf (r .state) ≡ true) s x n (λ answer. h) (sampled-sound s x)
 
 -- the error code stays
-pub error-stays : (s : State) (x : Sample) (n : ℕ) → sampleOf s x n .state .error ≡ s .error
+pub error-stays : ErrorStays
 error-stays s x n = outcome (λ r. r .state .error ≡ s .error) s x n (λ answer. refl) (λ h. refl)
 
 -- a sample on a sound state with room enough is accepted: the step of a run
@@ -100,3 +97,10 @@ accepted s x n h l = simp (h, le-ltb n 16 l)
 pub run-sound : (s : State) (xs : List Sample) → soundOf s ≡ true → soundOf (record { error = s .error; pack = runOf (s .pack) xs }) ≡ true
 run-sound s [] h = h
 run-sound s (x ∷ xs) h = run-sound (record { error = s .error; pack = sampledOf (s .pack) x }) xs (sampled-sound s x h)
+
+-- samples called one after another on a sound state, with room enough, are a run
+pub calls-run : CallsRun
+calls-run n s [] h l = refl
+calls-run n s (x ∷ xs) h l =
+    ap (λ (r : Sampled). stateAfter n (r .state) xs) (accepted s x n h l)
+    ∙ calls-run n (record { error = s .error; pack = sampledOf (s .pack) x }) xs (sampled-sound s x h) l

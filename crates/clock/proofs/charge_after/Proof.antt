@@ -1,10 +1,7 @@
-use Prim.Native.Nat.{ℕ, _*_}
-use mathlib.Core.Bool.{true, false}
-use Rattle.words.specs.Words.{below}
+use Rattle.clock.proofs.Charge.{falls, rises}
 use borrow.Author.Needs.{needs}
-use borrow.Author.Tests.{lt-ltb, le-ltb, le-leb, lt-leb, eq-eqb, ne-eqb, ltb-true, leb-true}
 use native.Mathlib.Omega.{arith}
-use mathlib.Core.Path.{_≡_, refl, ap, _∙_, sym}
+use mathlib.Core.Path.{_∙_, sym}
 use Rattle.clock.proofs.charge_after.Statement.{statement}
 use Rattle.clock.proofs.charge_after.Tie as tie
 
@@ -32,30 +29,52 @@ add-result c = search needs
 returns : tie.Need-returns
 returns c =
     let start = c .before .before .before .before .before .before in
-    let e : below (start .args .current) ≡ true = sym (c .before .before .falls .ensures) ∙ c .before .if1 .taken in
-    let q = c .before .before .before .before .flowed .ensures ∙ ap (λ x. x * start .args .elapsed) (c .before .before .before .before .before .size .ensures .0) in
-    simp e (omega (arith, simp e at q))
+    let flow = c .before .before .before .before in
+    omega (
+      arith,
+      falls (start .args .charge) (start .args .full) (start .args .current) (start .args .elapsed) (flow .before .size .result) (flow .flowed .result)
+          (sym (c .before .before .falls .ensures) ∙ c .before .if1 .taken)
+          (flow .before .size .ensures .0)
+          (flow .flowed .ensures),
+    )
 
 returns-2 : tie.Need-returns-2
 returns-2 c =
     let start = c .before .before .before .before .before .before in
-    let e : below (start .args .current) ≡ true = sym (c .before .before .falls .ensures) ∙ c .before .if1 .taken in
-    let q = c .before .before .before .before .flowed .ensures ∙ ap (λ x. x * start .args .elapsed) (c .before .before .before .before .before .size .ensures .0) in
-    simp e (omega (arith, simp e at q))
+    let flow = c .before .before .before .before in
+    omega (
+      arith,
+      falls (start .args .charge) (start .args .full) (start .args .current) (start .args .elapsed) (flow .before .size .result) (flow .flowed .result)
+          (sym (c .before .before .falls .ensures) ∙ c .before .if1 .taken)
+          (flow .before .size .ensures .0)
+          (flow .flowed .ensures),
+    )
 
 returns-3 : tie.Need-returns-3
 returns-3 c =
     let start = c .before .before .before .before .before .before in
-    let e : below (start .args .current) ≡ false = sym (c .before .before .falls .ensures) ∙ c .before .if1 .left in
-    let q = c .before .before .before .before .flowed .ensures ∙ ap (λ x. x * start .args .elapsed) (c .before .before .before .before .before .size .ensures .0) in
-    simp e (omega (arith, simp e at q, c .before .before .before .milliamp-ms .ensures .0))
+    let flow = c .before .before .before .before in
+    omega (
+      arith,
+      rises (start .args .charge) (start .args .full) (start .args .current) (start .args .elapsed) (flow .before .size .result) (flow .flowed .result)
+          (sym (c .before .before .falls .ensures) ∙ c .before .if1 .left)
+          (flow .before .size .ensures .0)
+          (flow .flowed .ensures),
+      c .before .before .before .milliamp-ms .ensures .0,
+    )
 
 returns-4 : tie.Need-returns-4
 returns-4 c =
     let start = c .before .before .before .before .before .before in
-    let e : below (start .args .current) ≡ false = sym (c .before .before .falls .ensures) ∙ c .before .if1 .left in
-    let q = c .before .before .before .before .flowed .ensures ∙ ap (λ x. x * start .args .elapsed) (c .before .before .before .before .before .size .ensures .0) in
-    simp e (omega (arith, simp e at q, c .before .before .before .milliamp-ms .ensures .0))
+    let flow = c .before .before .before .before in
+    omega (
+      arith,
+      rises (start .args .charge) (start .args .full) (start .args .current) (start .args .elapsed) (flow .before .size .result) (flow .flowed .result)
+          (sym (c .before .before .falls .ensures) ∙ c .before .if1 .left)
+          (flow .before .size .ensures .0)
+          (flow .flowed .ensures),
+      c .before .before .before .milliamp-ms .ensures .0,
+    )
 
 pub charge-after-spec : {M : Type 1} → statement M
 charge-after-spec =

@@ -1,8 +1,6 @@
 use native.Mathlib.Nat.{lt-of-le-of-lt, mul-le-mul-right}
 use borrow.Author.Needs.{needs}
-use borrow.Author.Tests.{lt-ltb, le-ltb, le-leb, lt-leb, eq-eqb, ne-eqb, ltb-true, leb-true}
 use native.Mathlib.Omega.{arith}
-use mathlib.Core.Path.{_≡_, refl, ap, _∙_, sym}
 use Rattle.clock.proofs.flowed.Statement.{statement}
 use Rattle.clock.proofs.flowed.Tie as tie
 

@@ -3,9 +3,8 @@ use borrow.Author.Tests.{not-true, not-false}
 use Rattle.clock.specs.Broadcast.{sampleOf, roomAfter}
 use Rattle.pack.specs.Sound.{soundOf}
 use borrow.Author.Needs.{needs}
-use borrow.Author.Tests.{lt-ltb, le-ltb, le-leb, lt-leb, eq-eqb, ne-eqb, ltb-true, leb-true}
-use native.Mathlib.Omega.{arith}
-use mathlib.Core.Path.{_≡_, refl, ap, _∙_, sym}
+use borrow.Author.Tests.{lt-ltb, le-ltb}
+use mathlib.Core.Path.{_≡_, _∙_, sym}
 use Rattle.clock.proofs.sample.Statement.{statement}
 use Rattle.clock.proofs.sample.Tie as tie
 

@@ -1,4 +1,4 @@
-use Prim.Native.Nat.{ℕ, _+_}
+use Prim.Native.Nat.{_+_}
 use mathlib.Core.Path.{subst⁻¹}
 use native.Mathlib.Nat.{zero-add}
 use denote.Ref.{now}
@@ -11,9 +11,8 @@ use Rattle.frame.specs.Transactions.{placed}
 use Rattle.frame.proofs.Rooms.{in-a-row, front}
 use Rattle.registers.specs.Registers.{Measured}
 use borrow.Author.Needs.{needs}
-use borrow.Author.Tests.{lt-ltb, le-ltb, le-leb, lt-leb, eq-eqb, ne-eqb, ltb-true, leb-true}
 use native.Mathlib.Omega.{arith}
-use mathlib.Core.Path.{_≡_, refl, ap, _∙_, sym}
+use mathlib.Core.Path.{_≡_, ap, _∙_, sym}
 use Rattle.clock.proofs.serve.Statement.{statement}
 use Rattle.clock.proofs.serve.Tie as tie
 

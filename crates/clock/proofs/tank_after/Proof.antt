@@ -1,11 +1,9 @@
-use Prim.Native.Nat.{ℕ, _≤_}
+use Prim.Native.Nat.{_≤_}
 use mathlib.Core.Path.{subst⁻¹}
 use Rattle.words.specs.Capacity.{milliampMs}
 use Rattle.clock.proofs.Charge.{charge-held}
 use borrow.Author.Needs.{needs}
-use borrow.Author.Tests.{lt-ltb, le-ltb, le-leb, lt-leb, eq-eqb, ne-eqb, ltb-true, leb-true}
 use native.Mathlib.Omega.{arith}
-use mathlib.Core.Path.{_≡_, refl, ap, _∙_, sym}
 use Rattle.clock.proofs.tank_after.Statement.{statement}
 use Rattle.clock.proofs.tank_after.Tie as tie
 
