@@ -7,7 +7,7 @@ use mathlib.Core.Option.{Option, none, some}
 use Prim.Native.Nat.{ℕ, _≤_}
 use native.Mathlib.Omega.{arith}
 use lib.ListN.{length, replicate}
-use Rattle.key.specs.Key.{escape, hexWord, keyOf, keyOfParts, Parts, Fit, IsKey, dateWord, isWords, readKey, readOf, makerOf, deviceOf, unescaped}
+use Rattle.key.specs.Key.{escape, hexWord, keyOf, keyOfParts, Parts, Fit, IsKey, isWords, readKey, readOf, makerOf, deviceOf, unescaped}
 use Rattle.key.proofs.Reading.{read-ended}
 use Rattle.key.proofs.Writing.{key-length, escape-length}
 use Rattle.key.proofs.Keys.{key-given}
@@ -112,13 +112,3 @@ longest = record { maker = replicate 32 0x2F; device = replicate 32 0x5C; date =
 pub some-key-of-139 : IsKey (keyOfParts longest) × (length (keyOfParts longest) ≡ 139)
 unfolding keyOf hexWord
 some-key-of-139 = (record { parts = longest; fit = record { maker-fits = omega arith; device-fits = omega arith; date-fits = omega arith; serial-fits = omega arith }; given = refl }, refl)
-
--- ---- 8: document 01's examples 5 and 6
-
-pub example-5 : dateWord 2021 3 15 ≡ 0x526F
-example-5 = refl
-
--- A/B, P7, that date, serial 17: `A\/B/P7/526f/0011`
-pub example-6 : keyOf (0x41 ∷ 0x2F ∷ 0x42 ∷ []) (0x50 ∷ 0x37 ∷ []) (dateWord 2021 3 15) 17 ≡ 0x41 ∷ 0x5C ∷ 0x2F ∷ 0x42 ∷ 0x2F ∷ 0x50 ∷ 0x37 ∷ 0x2F ∷ 0x35 ∷ 0x32 ∷ 0x36 ∷ 0x66 ∷ 0x2F ∷ 0x30 ∷ 0x30 ∷ 0x31 ∷ 0x31 ∷ []
-unfolding keyOf hexWord
-example-6 = refl

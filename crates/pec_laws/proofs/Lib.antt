@@ -1,7 +1,6 @@
 pub mod Bits
 pub mod Difference
 pub mod Every
-pub mod Examples
 pub mod Orbit
 pub mod Theorems
 pub mod Words

@@ -1,3 +1,2 @@
-pub mod Examples
 pub mod Faults
 pub mod Places
