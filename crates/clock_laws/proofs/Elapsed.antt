@@ -25,7 +25,3 @@ over start end (x ∷ xs) (time, l, h, r, c) =
 -- what elapses over a run is true time
 pub total-true : TotalTrue
 total-true start end xs c = over start end xs c .1
-
--- example 11: counter 4,294,967,290 to 4
-pub example-11 : elapsedOf 4 4294967290 ≡ 10
-example-11 = refl
