@@ -57,7 +57,7 @@ loop-again c =
     let old = c .before .before .args .t1 in (
       omega arith,
       omega arith,
-      length-set (k .currents) (k .i) (getD old (k .i - 1) 0) ∙ k .inv .2,
+      length-set (k .currents) (k .i) _ ∙ k .inv .2,
       turn old (k .currents) (c .before .before .args .current) (k .i) (k .inv .0) (search needs) (search needs) (k .inv .3),
     )
 
