@@ -2,3 +2,4 @@ pub mod Stores
 pub mod Numbers
 pub mod Parts
 pub mod Tests
+pub mod Stored

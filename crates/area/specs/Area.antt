@@ -52,10 +52,9 @@ wordsOf (w ∷ ws) = bytesOf 2 w ++ wordsOf ws
 abbrev pub flagOf : Bool → ℕ
 flagOf b = cond b 1 0
 
-abbrev pub settingsBytes : Settings → List ℕ
-settingsBytes s =
-    wordsOf
-    (s .DesignCapacity
+abbrev pub settingsWords : Settings → List ℕ
+settingsWords s =
+    s .DesignCapacity
     ∷ s .DesignVoltage
     ∷ s .MaxError
     ∷ s .ManufactureDate
@@ -64,21 +63,31 @@ settingsBytes s =
     ∷ s .ChargingVoltage
     ∷ s .TemperatureLimit
     ∷ s .DischargeLimit
-    ∷ [])
+    ∷ []
+
+abbrev pub settingsBytes : Settings → List ℕ
+settingsBytes s = wordsOf (settingsWords s)
+
+abbrev pub hostWords : Host → List ℕ
+hostWords h = h .ManufacturerAccess ∷ h .RemainingCapacityAlarm ∷ h .RemainingTimeAlarm ∷ h .AtRate ∷ []
 
 abbrev pub hostBytes : Host → List ℕ
-hostBytes h =
-    wordsOf (h .ManufacturerAccess ∷ h .RemainingCapacityAlarm ∷ h .RemainingTimeAlarm ∷ h .AtRate ∷ [])
-    ++ flagOf (h .AlarmMode) ∷ flagOf (h .ChargerMode) ∷ flagOf (h .CapacityMode) ∷ []
+hostBytes h = wordsOf (hostWords h) ++ flagOf (h .AlarmMode) ∷ flagOf (h .ChargerMode) ∷ flagOf (h .CapacityMode) ∷ []
+
+abbrev pub latestWords : Latest → List ℕ
+latestWords l = l .voltage ∷ l .current ∷ l .temperature ∷ []
 
 abbrev pub latestBytes : Latest → List ℕ
-latestBytes l = wordsOf (l .voltage ∷ l .current ∷ l .temperature ∷ []) ++ bytesOf 4 (l .counter)
+latestBytes l = wordsOf (latestWords l) ++ bytesOf 4 (l .counter)
 
 abbrev pub keptBytes : Kept → List ℕ
 keptBytes k = wordsOf (k .currents) ++ bytesOf 1 (k .count)
 
+abbrev pub tankWords : Tank → List ℕ
+tankWords t = t .full ∷ t .CycleCount ∷ []
+
 abbrev pub tankBytes : Tank → List ℕ
-tankBytes t = bytesOf 8 (t .charge) ++ wordsOf (t .full ∷ t .CycleCount ∷ []) ++ flagOf (t .FullyDischarged) ∷ []
+tankBytes t = bytesOf 8 (t .charge) ++ wordsOf (tankWords t) ++ flagOf (t .FullyDischarged) ∷ []
 
 abbrev pub timersBytes : Timers → List ℕ
 timersBytes t = bytesOf 4 (t .hold) ++ bytesOf 4 (t .alarm) ++ bytesOf 4 (t .charger)
@@ -184,10 +193,13 @@ isArea area =
 
 -- ---- the two entries
 
+-- a state, and that it was loaded
+abbrev pub loaded : State → Loaded
+loaded s = record { answer = 0; state = s }
+
 -- 0 and the state of an area; other bytes hold no sound state: 1 and the all-zero state
 unfoldable pub loadedOf : List ℕ → Loaded
-loadedOf area =
-    cond (isArea area) (record { answer = 0; state = stateIn area }) (record { answer = 1; state = zeroState })
+loadedOf area = cond (isArea area) (loaded (stateIn area)) (record { answer = 1; state = zeroState })
 
 -- a state goes into room for an area, if its count of kept samples is a byte
 abbrev pub storable : State → List ℕ → Bool

@@ -12,7 +12,7 @@ use lib.Seq.{drop-cons}
 use borrow.Author.Tests.{eqb-true, eqb-false}
 use Rattle.area.specs.Area.{bytesOf, wordsOf, flagOf, settingsBytes, hostBytes, latestBytes, keptBytes, tankBytes, timersBytes, numberAt, wordsAt, flagAt, settingsIn, hostIn, latestIn, keptIn, tankIn, timersIn}
 use Rattle.area.proofs.Tests.{IsArea}
-use Rattle.area_laws.specs.Fits.{Below}
+use Rattle.area.specs.Fits.{Below}
 
 byte-at : (l : List ℕ) (i : ℕ) → Below 256 l → getD l i 0 < 256
 byte-at [] i h = omega arith

@@ -1,3 +1,2 @@
-pub mod Stored
 pub mod Held
 pub mod Theorems
