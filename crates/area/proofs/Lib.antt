@@ -3,3 +3,4 @@ pub mod Numbers
 pub mod Parts
 pub mod Tests
 pub mod Stored
+pub mod Held

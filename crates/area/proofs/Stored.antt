@@ -6,10 +6,10 @@ use mathlib.Core.List.{List, [], _∷_, _++_, append-assoc}
 use Prim.Native.Nat.{ℕ, zero, suc, _+_, _*_, _/_, _%_, _^_, _≤_, _<_}
 use native.Mathlib.Omega.{arith}
 use lib.Dec.{eqb}
-use lib.ListN.{length, getD, length-append}
+use lib.ListN.{length, getD}
 use lib.Seq.{getD-append-add}
-use Rattle.area.specs.Area.{bytesOf, wordsOf, flagOf, settingsBytes, hostBytes, latestBytes, keptBytes, tankBytes, timersBytes, areaOf, stateIn, numberAt, wordsAt, flagAt, settingsIn, hostIn, latestIn, keptIn, tankIn, timersIn, isArea, loaded, loadedOf}
-use Rattle.area.proofs.Parts.{kept-length, words-length, area-length}
+use Rattle.area.specs.Area.{bytesOf, wordsOf, flagOf, keptBytes, tankBytes, timersBytes, areaOf, stateIn, numberAt, wordsAt, flagAt, settingsIn, hostIn, latestIn, keptIn, tankIn, timersIn, isArea, loaded, loadedOf}
+use Rattle.area.proofs.Parts.{kept-length, words-length, front, upTo-tank, area-length}
 use Rattle.area.proofs.Tests.{IsArea, tested}
 use Rattle.area.specs.Fits.{Below, Fits}
 use Rattle.pack.specs.declared.Host.{Host}
@@ -91,10 +91,7 @@ words-back (w ∷ ws) post h =
 
 -- ---- an area's parts
 
--- what stands before the kept samples, and before the tank
-abbrev front : State → List ℕ
-front s = bytesOf 1 (s .error) ++ settingsBytes (s .pack .settings) ++ hostBytes (s .pack .host) ++ latestBytes (s .pack .latest)
-
+-- what stands before the tank, and from the tank on
 abbrev upToTank : State → List ℕ
 upToTank s = front s ++ keptBytes (s .pack .kept)
 
@@ -110,9 +107,7 @@ cut-at-kept s = cut-at-tank s ∙ append-assoc (front s) (keptBytes (s .pack .ke
 
 module _ (s : State) (f : Fits s) where
   before-tank : length (upToTank s) ≡ 161
-  before-tank =
-      let n : length (front s) ≡ 40 = refl in
-      omega (arith, n, kept-length (s .pack .kept) (f .sixty), length-append (front s) (keptBytes (s .pack .kept)))
+  before-tank = upTo-tank s (kept-length (s .pack .kept) (f .sixty))
 
   -- a number past the kept samples
   late : (n k : ℕ) → numberAt n (areaOf s) (161 + k) ≡ numberAt n (back s) k

@@ -50,12 +50,14 @@ fn put_words(area: &mut [u8], at: usize, words: &[u16])
     }
 }
 
+// A flag's byte.
 fn flag(b: bool) -> u8
     ensures { λ r. ⌜ r ≡ flagOf b ⌝ }
 {
     if b { 1 } else { 0 }
 }
 
+// Each part at its place in the area.
 fn put_settings(area: &mut [u8], s: Settings)
     requires { ⌜ 186 ≤ length (now area) ⌝ }
     ensures memory { λ _. ⌜ now (area .exit) ≡ sets (now (area .entry)) 1 (settingsBytes s) ⌝ }
@@ -167,6 +169,7 @@ pub fn store(s: State, room: &mut [u8]) -> u8
     0
 }
 
+// Numbers of 2, 4 and 8 bytes at a place.
 fn word_at(area: &[u8], at: usize) -> u16
     requires { ⌜ at + 2 ≤ length (now area) ⌝ }
     ensures { λ r. ⌜ r ≡ numberAt 2 (now (area .entry)) at ⌝ }
@@ -192,6 +195,7 @@ fn wide_at(area: &[u8], at: usize) -> u64
     low + 4294967296 * high
 }
 
+// Sixty words from a place on.
 fn words_at(area: &[u8], at: usize) -> [u16; 60]
     requires { ⌜ at + 120 ≤ length (now area) ⌝ }
     ensures { λ r. ⌜ r ≡ wordsAt 60 (now (area .entry)) at ⌝ }
@@ -206,6 +210,7 @@ fn words_at(area: &[u8], at: usize) -> [u16; 60]
     found
 }
 
+// Each part from its place in the area.
 fn settings_in(area: &[u8]) -> Settings
     requires { ⌜ 186 ≤ length (now area) ⌝ }
     ensures { λ r. ⌜ r ≡ settingsIn (now (area .entry)) ⌝ }
@@ -250,6 +255,7 @@ fn latest_in(area: &[u8]) -> Latest
     }
 }
 
+// A byte as a count.
 fn counted(b: u8) -> usize
     ensures { λ r. ⌜ r ≡ b ⌝ }
 {
@@ -299,6 +305,7 @@ pub fn is_area(area: &[u8]) -> bool
     (area[27] <= 1) & (area[28] <= 1) & (area[29] <= 1) & (area[173] <= 1)
 }
 
+// The whole state.
 fn state_in(area: &[u8]) -> State
     requires { ⌜ 186 ≤ length (now area) ⌝ }
     ensures { λ r. ⌜ r ≡ stateIn (now (area .entry)) ⌝ }
@@ -319,7 +326,8 @@ fn state_in(area: &[u8]) -> State
 
 // The state of an area: answer 0; or 1 and the all-zero state.
 pub fn load(area: &[u8]) -> Loaded
-    ensures { λ r. ⌜ r ≡ loadedOf (now (area .entry)) ⌝ }
+    ensures is { λ r. ⌜ r ≡ loadedOf (now (area .entry)) ⌝ }
+    ensures back { λ r. ⌜ (r .answer ≡ 0 → areaOf (r .state) ≡ now (area .entry)) ⌝ }
 {
     if is_area(area) {
         let state = state_in(area);
