@@ -38,14 +38,16 @@ then room us vs {before} {after} {at} e n h =
     h ∙ ap (λ (l : List ℕ). sets l at vs) e ∙ ap (λ (i : ℕ). sets (sets room 0 us) i vs) z ∙ in-a-row room 0 us vs
 
 -- what stands before the kept samples
-abbrev front : State → List ℕ
+abbrev pub front : State → List ℕ
 front s = bytesOf 1 (s .error) ++ settingsBytes (s .pack .settings) ++ hostBytes (s .pack .host) ++ latestBytes (s .pack .latest)
 
-upTo-tank : (s : State) → length (keptBytes (s .pack .kept)) ≡ 121 → length (front s ++ keptBytes (s .pack .kept)) ≡ 161
+-- the tank stands at 161
+pub upTo-tank : (s : State) → length (keptBytes (s .pack .kept)) ≡ 121 → length (front s ++ keptBytes (s .pack .kept)) ≡ 161
 upTo-tank s k =
     let n : length (front s) ≡ 40 = refl in
     omega (arith, n, k, length-append (front s) (keptBytes (s .pack .kept)))
 
+-- the timers stand at 174
 upTo-timers : (s : State) → length (keptBytes (s .pack .kept)) ≡ 121 → length (front s ++ keptBytes (s .pack .kept) ++ tankBytes (s .pack .tank)) ≡ 174
 upTo-timers s k =
     let n : length (tankBytes (s .pack .tank)) ≡ 13 = refl in

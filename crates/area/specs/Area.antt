@@ -52,10 +52,10 @@ wordsOf (w ∷ ws) = bytesOf 2 w ++ wordsOf ws
 abbrev pub flagOf : Bool → ℕ
 flagOf b = cond b 1 0
 
-abbrev pub settingsBytes : Settings → List ℕ
-settingsBytes s =
-    wordsOf
-    (s .DesignCapacity
+-- what set-up fixes, nine words
+abbrev pub settingsWords : Settings → List ℕ
+settingsWords s =
+    s .DesignCapacity
     ∷ s .DesignVoltage
     ∷ s .MaxError
     ∷ s .ManufactureDate
@@ -64,22 +64,41 @@ settingsBytes s =
     ∷ s .ChargingVoltage
     ∷ s .TemperatureLimit
     ∷ s .DischargeLimit
-    ∷ [])
+    ∷ []
 
+-- and their bytes
+abbrev pub settingsBytes : Settings → List ℕ
+settingsBytes s = wordsOf (settingsWords s)
+
+-- what the host wrote, four words
+abbrev pub hostWords : Host → List ℕ
+hostWords h = h .ManufacturerAccess ∷ h .RemainingCapacityAlarm ∷ h .RemainingTimeAlarm ∷ h .AtRate ∷ []
+
+-- their bytes, and the three bits of BatteryMode as flags
 abbrev pub hostBytes : Host → List ℕ
-hostBytes h =
-    wordsOf (h .ManufacturerAccess ∷ h .RemainingCapacityAlarm ∷ h .RemainingTimeAlarm ∷ h .AtRate ∷ [])
-    ++ flagOf (h .AlarmMode) ∷ flagOf (h .ChargerMode) ∷ flagOf (h .CapacityMode) ∷ []
+hostBytes h = wordsOf (hostWords h) ++ flagOf (h .AlarmMode) ∷ flagOf (h .ChargerMode) ∷ flagOf (h .CapacityMode) ∷ []
 
+-- what was sampled last, three words
+abbrev pub latestWords : Latest → List ℕ
+latestWords l = l .voltage ∷ l .current ∷ l .temperature ∷ []
+
+-- their bytes, and the counter in 4
 abbrev pub latestBytes : Latest → List ℕ
-latestBytes l = wordsOf (l .voltage ∷ l .current ∷ l .temperature ∷ []) ++ bytesOf 4 (l .counter)
+latestBytes l = wordsOf (latestWords l) ++ bytesOf 4 (l .counter)
 
+-- the kept samples' words, and how many they are in 1 byte
 abbrev pub keptBytes : Kept → List ℕ
 keptBytes k = wordsOf (k .currents) ++ bytesOf 1 (k .count)
 
-abbrev pub tankBytes : Tank → List ℕ
-tankBytes t = bytesOf 8 (t .charge) ++ wordsOf (t .full ∷ t .CycleCount ∷ []) ++ flagOf (t .FullyDischarged) ∷ []
+-- full capacity and CycleCount
+abbrev pub tankWords : Tank → List ℕ
+tankWords t = t .full ∷ t .CycleCount ∷ []
 
+-- the charge in 8 bytes, the two words, and bit 4 of BatteryStatus as a flag
+abbrev pub tankBytes : Tank → List ℕ
+tankBytes t = bytesOf 8 (t .charge) ++ wordsOf (tankWords t) ++ flagOf (t .FullyDischarged) ∷ []
+
+-- hold, alarm timer and charger timer, 4 bytes each
 abbrev pub timersBytes : Timers → List ℕ
 timersBytes t = bytesOf 4 (t .hold) ++ bytesOf 4 (t .alarm) ++ bytesOf 4 (t .charger)
 
@@ -110,6 +129,7 @@ wordsAt (suc n) area at = numberAt 2 area at ∷ wordsAt n area (at + 2)
 abbrev pub flagAt : List ℕ → ℕ → Bool
 flagAt area at = eqb (getD area at 0) 1
 
+-- what set-up fixed
 abbrev pub settingsIn : List ℕ → Settings
 settingsIn area =
     record {
@@ -124,6 +144,7 @@ settingsIn area =
       DischargeLimit = numberAt 2 area 17;
     }
 
+-- what the host wrote
 abbrev pub hostIn : List ℕ → Host
 hostIn area =
     record {
@@ -136,6 +157,7 @@ hostIn area =
       CapacityMode = flagAt area 29;
     }
 
+-- what was sampled last
 abbrev pub latestIn : List ℕ → Latest
 latestIn area =
     record {
@@ -145,9 +167,11 @@ latestIn area =
       counter = numberAt 4 area 36;
     }
 
+-- the kept samples
 abbrev pub keptIn : List ℕ → Kept
 keptIn area = record { currents = wordsAt 60 area 40; count = getD area 160 0 }
 
+-- the tank
 abbrev pub tankIn : List ℕ → Tank
 tankIn area =
     record {
@@ -157,6 +181,7 @@ tankIn area =
       FullyDischarged = flagAt area 173;
     }
 
+-- the timers
 abbrev pub timersIn : List ℕ → Timers
 timersIn area = record { hold = numberAt 4 area 174; alarm = numberAt 4 area 178; charger = numberAt 4 area 182 }
 
@@ -184,10 +209,13 @@ isArea area =
 
 -- ---- the two entries
 
+-- a state, and that it was loaded
+abbrev pub loaded : State → Loaded
+loaded s = record { answer = 0; state = s }
+
 -- 0 and the state of an area; other bytes hold no sound state: 1 and the all-zero state
 unfoldable pub loadedOf : List ℕ → Loaded
-loadedOf area =
-    cond (isArea area) (record { answer = 0; state = stateIn area }) (record { answer = 1; state = zeroState })
+loadedOf area = cond (isArea area) (loaded (stateIn area)) (record { answer = 1; state = zeroState })
 
 -- a state goes into room for an area, if its count of kept samples is a byte
 abbrev pub storable : State → List ℕ → Bool

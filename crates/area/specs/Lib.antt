@@ -1,1 +1,2 @@
 pub mod Area
+pub mod Fits

@@ -3,7 +3,8 @@ ghost use mathlib.Core.Path.{_≡_};
 ghost use Prim.Native.Nat.{_+_, _*_, _≤_, _<_};
 ghost use lib.ListN.{length};
 ghost use lib.Seq.{sets};
-ghost use Rattle.area.specs.Area.{bytesOf, wordsOf, flagOf, settingsBytes, hostBytes, latestBytes, keptBytes, tankBytes, timersBytes, areaOf, numberAt, wordsAt, settingsIn, hostIn, latestIn, keptIn, tankIn, timersIn, stateIn, isArea, loadedOf, storedOf, roomAfter};
+ghost use Rattle.area.specs.Fits.{Below, Fits};
+ghost use Rattle.area.specs.Area.{bytesOf, wordsOf, flagOf, settingsWords, hostWords, latestWords, tankWords, settingsBytes, hostBytes, latestBytes, keptBytes, tankBytes, timersBytes, areaOf, numberAt, wordsAt, settingsIn, hostIn, latestIn, keptIn, tankIn, timersIn, stateIn, isArea, loaded, loadedOf, storedOf, roomAfter};
 use pack::Host;
 use pack::Kept;
 use pack::Latest;
@@ -36,7 +37,8 @@ fn put_number(area: &mut [u8], at: usize, n: usize, value: u64)
 // Words from a place on.
 fn put_words(area: &mut [u8], at: usize, words: &[u16])
     requires { ⌜ at + 2 * length (now words) ≤ length (now area) ⌝ }
-    ensures { λ _. ⌜ now (area .exit) ≡ sets (now (area .entry)) at (wordsOf (now (words .entry))) ⌝ }
+    ensures memory { λ _. ⌜ now (area .exit) ≡ sets (now (area .entry)) at (wordsOf (now (words .entry))) ⌝ }
+    ensures small { λ _. ⌜ Below 65536 (now (words .entry)) ⌝ }
 {
     let mut i = 0;
     while i < words.len() {
@@ -48,15 +50,18 @@ fn put_words(area: &mut [u8], at: usize, words: &[u16])
     }
 }
 
+// A flag's byte.
 fn flag(b: bool) -> u8
     ensures { λ r. ⌜ r ≡ flagOf b ⌝ }
 {
     if b { 1 } else { 0 }
 }
 
+// Each part at its place in the area.
 fn put_settings(area: &mut [u8], s: Settings)
     requires { ⌜ 186 ≤ length (now area) ⌝ }
-    ensures { λ _. ⌜ now (area .exit) ≡ sets (now (area .entry)) 1 (settingsBytes s) ⌝ }
+    ensures memory { λ _. ⌜ now (area .exit) ≡ sets (now (area .entry)) 1 (settingsBytes s) ⌝ }
+    ensures small { λ _. ⌜ Below 65536 (settingsWords s) ⌝ }
 {
     put_words(
         area,
@@ -77,7 +82,8 @@ fn put_settings(area: &mut [u8], s: Settings)
 
 fn put_host(area: &mut [u8], h: Host)
     requires { ⌜ 186 ≤ length (now area) ⌝ }
-    ensures { λ _. ⌜ now (area .exit) ≡ sets (now (area .entry)) 19 (hostBytes h) ⌝ }
+    ensures memory { λ _. ⌜ now (area .exit) ≡ sets (now (area .entry)) 19 (hostBytes h) ⌝ }
+    ensures small { λ _. ⌜ Below 65536 (hostWords h) ⌝ }
 {
     put_words(
         area,
@@ -96,7 +102,8 @@ fn put_host(area: &mut [u8], h: Host)
 
 fn put_latest(area: &mut [u8], l: Latest)
     requires { ⌜ 186 ≤ length (now area) ⌝ }
-    ensures { λ _. ⌜ now (area .exit) ≡ sets (now (area .entry)) 30 (latestBytes l) ⌝ }
+    ensures memory { λ _. ⌜ now (area .exit) ≡ sets (now (area .entry)) 30 (latestBytes l) ⌝ }
+    ensures small { λ _. ⌜ Below 65536 (latestWords l) ⌝ }
 {
     put_words(area, 30, &[l.voltage, l.current, l.temperature]);
     put_number(area, 36, 4, l.counter as u64);
@@ -105,7 +112,7 @@ fn put_latest(area: &mut [u8], l: Latest)
 fn put_kept(area: &mut [u8], k: Kept)
     requires { ⌜ (186 ≤ length (now area)) × (k .count ≤ 255) ⌝ }
     ensures memory { λ _. ⌜ now (area .exit) ≡ sets (now (area .entry)) 40 (keptBytes k) ⌝ }
-    ensures size { λ _. ⌜ length (keptBytes k) ≡ 121 ⌝ }
+    ensures small { λ _. ⌜ (length (k .currents) ≡ 60) × Below 65536 (k .currents) ⌝ }
 {
     let currents = k.currents;
     put_words(area, 40, &currents);
@@ -114,7 +121,8 @@ fn put_kept(area: &mut [u8], k: Kept)
 
 fn put_tank(area: &mut [u8], t: Tank)
     requires { ⌜ 186 ≤ length (now area) ⌝ }
-    ensures { λ _. ⌜ now (area .exit) ≡ sets (now (area .entry)) 161 (tankBytes t) ⌝ }
+    ensures memory { λ _. ⌜ now (area .exit) ≡ sets (now (area .entry)) 161 (tankBytes t) ⌝ }
+    ensures small { λ _. ⌜ Below 65536 (tankWords t) ⌝ }
 {
     put_number(area, 161, 8, t.charge);
     put_words(area, 169, &[t.full, t.CycleCount]);
@@ -133,7 +141,8 @@ fn put_timers(area: &mut [u8], t: Timers)
 // The whole area.
 fn put_state(area: &mut [u8], s: State)
     requires { ⌜ (length (now area) ≡ 186) × (s .pack .kept .count ≤ 255) ⌝ }
-    ensures { λ _. ⌜ now (area .exit) ≡ areaOf s ⌝ }
+    ensures memory { λ _. ⌜ now (area .exit) ≡ areaOf s ⌝ }
+    ensures small { λ _. ⌜ Fits s ⌝ }
 {
     put_number(area, 0, 1, s.error as u64);
     put_settings(area, s.pack.settings);
@@ -148,6 +157,7 @@ fn put_state(area: &mut [u8], s: State)
 pub fn store(s: State, room: &mut [u8]) -> u8
     ensures answer { λ r. ⌜ r ≡ storedOf s (now (room .entry)) ⌝ }
     ensures memory { λ _. ⌜ now (room .exit) ≡ roomAfter s (now (room .entry)) ⌝ }
+    ensures back { λ r. ⌜ (r ≡ 0 → loadedOf (now (room .exit)) ≡ loaded s) ⌝ }
 {
     if room.len() != 186 {
         return 1;
@@ -159,6 +169,7 @@ pub fn store(s: State, room: &mut [u8]) -> u8
     0
 }
 
+// Numbers of 2, 4 and 8 bytes at a place.
 fn word_at(area: &[u8], at: usize) -> u16
     requires { ⌜ at + 2 ≤ length (now area) ⌝ }
     ensures { λ r. ⌜ r ≡ numberAt 2 (now (area .entry)) at ⌝ }
@@ -184,6 +195,7 @@ fn wide_at(area: &[u8], at: usize) -> u64
     low + 4294967296 * high
 }
 
+// Sixty words from a place on.
 fn words_at(area: &[u8], at: usize) -> [u16; 60]
     requires { ⌜ at + 120 ≤ length (now area) ⌝ }
     ensures { λ r. ⌜ r ≡ wordsAt 60 (now (area .entry)) at ⌝ }
@@ -198,6 +210,7 @@ fn words_at(area: &[u8], at: usize) -> [u16; 60]
     found
 }
 
+// Each part from its place in the area.
 fn settings_in(area: &[u8]) -> Settings
     requires { ⌜ 186 ≤ length (now area) ⌝ }
     ensures { λ r. ⌜ r ≡ settingsIn (now (area .entry)) ⌝ }
@@ -242,6 +255,7 @@ fn latest_in(area: &[u8]) -> Latest
     }
 }
 
+// A byte as a count.
 fn counted(b: u8) -> usize
     ensures { λ r. ⌜ r ≡ b ⌝ }
 {
@@ -291,6 +305,7 @@ pub fn is_area(area: &[u8]) -> bool
     (area[27] <= 1) & (area[28] <= 1) & (area[29] <= 1) & (area[173] <= 1)
 }
 
+// The whole state.
 fn state_in(area: &[u8]) -> State
     requires { ⌜ 186 ≤ length (now area) ⌝ }
     ensures { λ r. ⌜ r ≡ stateIn (now (area .entry)) ⌝ }
@@ -311,7 +326,8 @@ fn state_in(area: &[u8]) -> State
 
 // The state of an area: answer 0; or 1 and the all-zero state.
 pub fn load(area: &[u8]) -> Loaded
-    ensures { λ r. ⌜ r ≡ loadedOf (now (area .entry)) ⌝ }
+    ensures is { λ r. ⌜ r ≡ loadedOf (now (area .entry)) ⌝ }
+    ensures back { λ r. ⌜ (r .answer ≡ 0 → areaOf (r .state) ≡ now (area .entry)) ⌝ }
 {
     if is_area(area) {
         let state = state_in(area);

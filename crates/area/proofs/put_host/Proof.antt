@@ -34,7 +34,7 @@ same-length : tie.Need-same-length
 same-length c = search needs
 
 returns : tie.Need-returns
-returns c = rw (c .flag3 .ensures, c .before .flag2 .ensures, c .before .before .flag .ensures, c .before .before .before .before .before .put-words .ensures)
+returns c = (rw (c .flag3 .ensures, c .before .flag2 .ensures, c .before .before .flag .ensures, c .before .before .before .before .before .put-words .ensures .0), c .before .before .before .before .before .put-words .ensures .1)
 
 pub put-host-spec : {M : Type 1} → statement M
 put-host-spec =

@@ -1,7 +1,7 @@
 -- `area::put_kept` meets its contract.
 -- Assumes nothing.
 use lib.ListN.{length}
-use Rattle.area.proofs.Parts.{kept-laid, kept-length}
+use Rattle.area.proofs.Parts.{kept-laid}
 use borrow.Author.Needs.{needs}
 use native.Mathlib.Omega.{arith}
 use mathlib.Core.Path.{_≡_, sym}
@@ -27,8 +27,10 @@ same-length c = search needs
 returns : tie.Need-returns
 returns c =
     let a = c .before .before .before .before .before .before .before .before .args in
-    let n : 60 ≡ length (a .k .currents) = slice-aggregate-put-words (c .before .before .before .before) in
-    (rw (c .before .before .before .put-words .ensures) (kept-laid (a .area .now) (a .k) (sym n) (omega arith)), kept-length (a .k) (sym n))
+    let n : 60 ≡ length (a .k .currents) = slice-aggregate-put-words (c .before .before .before .before) in (
+      rw (c .before .before .before .put-words .ensures .0) (kept-laid (a .area .now) (a .k) (sym n) (omega arith)),
+      (sym n, c .before .before .before .put-words .ensures .1),
+    )
 
 pub put-kept-spec : {M : Type 1} → statement M
 put-kept-spec =

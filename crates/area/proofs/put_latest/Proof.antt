@@ -20,7 +20,7 @@ same-length : tie.Need-same-length
 same-length c = search needs
 
 returns : tie.Need-returns
-returns c = rw (c .before .before .put-number .ensures, c .before .before .before .before .before .before .before .put-words .ensures)
+returns c = (rw (c .before .before .put-number .ensures, c .before .before .before .before .before .before .before .put-words .ensures .0), c .before .before .before .before .before .before .before .put-words .ensures .1)
 
 pub put-latest-spec : {M : Type 1} → statement M
 put-latest-spec =

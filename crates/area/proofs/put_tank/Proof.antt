@@ -25,7 +25,7 @@ same-length : tie.Need-same-length
 same-length c = simp length-set (c .before .before .before .put-words .kept .0 ∙ c .before .before .before .before .before .before .before .before .put-number .kept .0)
 
 returns : tie.Need-returns
-returns c = rw (c .flag .ensures, c .before .before .before .put-words .ensures, c .before .before .before .before .before .before .before .before .put-number .ensures)
+returns c = (rw (c .flag .ensures, c .before .before .before .put-words .ensures .0, c .before .before .before .before .before .before .before .before .put-number .ensures), c .before .before .before .put-words .ensures .1)
 
 pub put-tank-spec : {M : Type 1} → statement M
 put-tank-spec =

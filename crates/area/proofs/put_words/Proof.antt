@@ -5,6 +5,7 @@ use lib.ListN.{length, drop, length-set}
 use lib.Seq.{sets}
 use Rattle.area.specs.Area.{wordsOf}
 use Rattle.area.proofs.Stores.{words-turn, words-done}
+use Rattle.area.proofs.Stored.{below-all}
 use borrow.Author.Needs.{needs}
 use native.Mathlib.Omega.{arith}
 use mathlib.Core.Path.{_≡_, refl, ap, _∙_, sym}
@@ -72,8 +73,10 @@ same-length c = c .before .loop .inv .2
 returns : tie.Need-returns Inv-loop μ-loop
 returns c =
     let l = c .before .loop in
-    let a = c .before .before .before .before .args in
-    sym (words-done (l .area) (a .words .now) (a .at) (l .i) (c .loop-test .left)) ∙ l .inv .1
+    let a = c .before .before .before .before .args in (
+      sym (words-done (l .area) (a .words .now) (a .at) (l .i) (c .loop-test .left)) ∙ l .inv .1,
+      below-all 65536 (a .words .now) (λ i. omega (arith, c .before .before .shared-slice-known .given i)),
+    )
 
 pub put-words-spec : {M : Type 1} → statement M
 put-words-spec =

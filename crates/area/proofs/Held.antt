@@ -2,17 +2,17 @@
 -- Assumes nothing.
 use mathlib.Core.Path.{_≡_, refl, sym, ap, _∙_}
 use mathlib.Core.Bool.{Bool, true, false}
-use mathlib.Core.List.{List, [], _∷_, _++_, append-assoc}
+use mathlib.Core.List.{List, [], _∷_, _++_, append-assoc, append-nil}
 use Prim.Native.Nat.{ℕ, zero, suc, _+_, _*_, _/_, _%_, _^_, _≤_, _<_}
 use native.Mathlib.Nat.{add-zero}
 use native.Mathlib.Omega.{arith}
 use lib.Dec.{eqb}
-use lib.ListN.{length, getD, drop}
+use lib.ListN.{length, getD, drop, drop-of-length-le}
 use lib.Seq.{drop-cons}
 use borrow.Author.Tests.{eqb-true, eqb-false}
-use Rattle.area.specs.Area.{bytesOf, wordsOf, flagOf, settingsBytes, hostBytes, latestBytes, keptBytes, tankBytes, timersBytes, numberAt, wordsAt, flagAt, settingsIn, hostIn, latestIn, keptIn, tankIn, timersIn}
-use Rattle.area.proofs.Tests.{IsArea}
-use Rattle.area_laws.specs.Fits.{Below}
+use Rattle.area.specs.Area.{bytesOf, wordsOf, flagOf, settingsBytes, hostBytes, latestBytes, keptBytes, tankBytes, timersBytes, areaOf, stateIn, isArea, numberAt, wordsAt, flagAt, settingsIn, hostIn, latestIn, keptIn, tankIn, timersIn}
+use Rattle.area.proofs.Tests.{IsArea, facts}
+use Rattle.area.specs.Fits.{Below}
 
 byte-at : (l : List ℕ) (i : ℕ) → Below 256 l → getD l i 0 < 256
 byte-at [] i h = omega arith
@@ -125,3 +125,27 @@ module _ (a : List ℕ) (b : Below 256 a) where
         on (H ++ A) (bytesOf 4 (numberAt 4 a 182)) (drop 186 a) (drop 182 a) (number-again 4 182 (omega (arith, f .size)))
         ∙ on H A (drop 182 a) (drop 178 a) (number-again 4 178 (omega (arith, f .size)))
         ∙ number-again 4 174 (omega (arith, f .size))
+
+-- every area is that of the state it holds
+pub held : (a : List ℕ) → Below 256 a → isArea a ≡ true → areaOf (stateIn a) ≡ a
+unfolding areaOf stateIn
+held a b is =
+    let f = facts a is in
+    let E : List ℕ = bytesOf 1 (getD a 0 0) in
+    let S : List ℕ = settingsBytes (settingsIn a) in
+    let H : List ℕ = hostBytes (hostIn a) in
+    let L : List ℕ = latestBytes (latestIn a) in
+    let K : List ℕ = keptBytes (keptIn a) in
+    let T : List ℕ = tankBytes (tankIn a) in
+    let R : List ℕ = timersBytes (timersIn a) in
+    let past : length a ≤ 186 = omega (arith, f .size) in
+    let none : drop 186 a ≡ [] = drop-of-length-le a past in
+    let whole : (E ++ S ++ H ++ L ++ K ++ T ++ R) ++ drop 186 a ≡ a =
+    on (E ++ S ++ H ++ L ++ K ++ T) R (drop 186 a) (drop 174 a) (timers-again a b f)
+    ∙ on (E ++ S ++ H ++ L ++ K) T (drop 174 a) (drop 161 a) (tank-again a b f)
+    ∙ on (E ++ S ++ H ++ L) K (drop 161 a) (drop 40 a) (kept-again a b f)
+    ∙ on (E ++ S ++ H) L (drop 40 a) (drop 30 a) (latest-again a b f)
+    ∙ on (E ++ S) H (drop 30 a) (drop 19 a) (host-again a b f)
+    ∙ on E S (drop 19 a) (drop 1 a) (settings-again a b f)
+    ∙ error-again a b f in
+    sym (append-nil (E ++ S ++ H ++ L ++ K ++ T ++ R)) ∙ ap (λ (l : List ℕ). (E ++ S ++ H ++ L ++ K ++ T ++ R) ++ l) (sym none) ∙ whole

@@ -6,12 +6,24 @@ use mathlib.Core.List.{List, [], _∷_, _++_, append-assoc}
 use Prim.Native.Nat.{ℕ, zero, suc, _+_, _*_, _/_, _%_, _^_, _≤_, _<_}
 use native.Mathlib.Omega.{arith}
 use lib.Dec.{eqb}
-use lib.ListN.{length, getD, length-append}
+use lib.ListN.{length, getD}
 use lib.Seq.{getD-append-add}
-use Rattle.area.specs.Area.{bytesOf, wordsOf, flagOf, settingsBytes, hostBytes, latestBytes, keptBytes, tankBytes, timersBytes, areaOf, numberAt, wordsAt, flagAt, settingsIn, hostIn, latestIn, keptIn, tankIn, timersIn}
-use Rattle.area.proofs.Parts.{kept-length, words-length}
-use Rattle.area_laws.specs.Fits.{Below, Fits}
+use Rattle.area.specs.Area.{bytesOf, wordsOf, flagOf, keptBytes, tankBytes, timersBytes, areaOf, stateIn, numberAt, wordsAt, flagAt, settingsIn, hostIn, latestIn, keptIn, tankIn, timersIn, isArea, loaded, loadedOf}
+use Rattle.area.proofs.Parts.{kept-length, words-length, front, upTo-tank, area-length}
+use Rattle.area.proofs.Tests.{IsArea, tested}
+use Rattle.area.specs.Fits.{Below, Fits}
+use Rattle.pack.specs.declared.Host.{Host}
+use Rattle.pack.specs.declared.Kept.{Kept}
+use Rattle.pack.specs.declared.Latest.{Latest}
+use Rattle.pack.specs.declared.Settings.{Settings}
+use Rattle.pack.specs.declared.Tank.{Tank}
+use Rattle.pack.specs.declared.Timers.{Timers}
 use Rattle.pack.specs.declared.State.{State}
+
+-- a bound on each element is one on all
+pub below-all : (bound : ℕ) (l : List ℕ) → ((i : ℕ) → getD l i 0 < bound) → Below bound l
+below-all bound [] h = tt
+below-all bound (x ∷ l) h = (h 0, below-all bound l (λ i. h (suc i)))
 
 -- ---- a number
 
@@ -79,10 +91,7 @@ words-back (w ∷ ws) post h =
 
 -- ---- an area's parts
 
--- what stands before the kept samples, and before the tank
-abbrev front : State → List ℕ
-front s = bytesOf 1 (s .error) ++ settingsBytes (s .pack .settings) ++ hostBytes (s .pack .host) ++ latestBytes (s .pack .latest)
-
+-- what stands before the tank, and from the tank on
 abbrev upToTank : State → List ℕ
 upToTank s = front s ++ keptBytes (s .pack .kept)
 
@@ -98,9 +107,7 @@ cut-at-kept s = cut-at-tank s ∙ append-assoc (front s) (keptBytes (s .pack .ke
 
 module _ (s : State) (f : Fits s) where
   before-tank : length (upToTank s) ≡ 161
-  before-tank =
-      let n : length (front s) ≡ 40 = refl in
-      omega (arith, n, kept-length (s .pack .kept) (f .sixty), length-append (front s) (keptBytes (s .pack .kept)))
+  before-tank = upTo-tank s (kept-length (s .pack .kept) (f .sixty))
 
   -- a number past the kept samples
   late : (n k : ℕ) → numberAt n (areaOf s) (161 + k) ≡ numberAt n (back s) k
@@ -201,3 +208,42 @@ module _ (s : State) (f : Fits s) where
         late 4 17 ∙ long-back (t .alarm) (f .timers .1 .0),
         late 4 21 ∙ long-back (t .charger) (f .timers .1 .1 .0),
       )
+
+-- ---- the whole state
+
+abbrev made : ℕ → Settings → Host → Latest → Kept → Tank → Timers → State
+made e s h l k t r = record { error = e; pack = record { settings = s; host = h; latest = l; kept = k; tank = t; timers = r } }
+
+same-made : {e e′ : ℕ} {s s′ : Settings} {h h′ : Host} {l l′ : Latest} {k k′ : Kept} {t t′ : Tank} {r r′ : Timers}
+    → e ≡ e′ → s ≡ s′ → h ≡ h′ → l ≡ l′ → k ≡ k′ → t ≡ t′ → r ≡ r′ → made e s h l k t r ≡ made e′ s′ h′ l′ k′ t′ r′
+same-made pe ps ph pl pk pt pr = rw (pe, ps, ph, pl, pk, pt, pr)
+
+-- reading back what was stored gives the state
+pub read-back : (s : State) → Fits s → stateIn (areaOf s) ≡ s
+unfolding stateIn
+read-back s f =
+    same-made (error-back s f) (settings-back s f) (host-back s f) (latest-back s f) (kept-back s f) (tank-back s f) (timers-back s f)
+
+-- a state's area has 186 bytes
+pub length-is : (s : State) → Fits s → length (areaOf s) ≡ 186
+length-is s f = area-length s (kept-length (s .pack .kept) (f .sixty))
+
+facts-of : (s : State) → Fits s → IsArea (areaOf s)
+unfolding areaOf
+facts-of s f =
+    record {
+      size = length-is s f;
+      alarm = flag-small (s .pack .host .AlarmMode);
+      charger = flag-small (s .pack .host .ChargerMode);
+      capacity = flag-small (s .pack .host .CapacityMode);
+      discharged = late-flag s f;
+    }
+
+-- and is an area
+pub area-is : (s : State) → Fits s → isArea (areaOf s) ≡ true
+area-is s f = tested (areaOf s) (facts-of s f)
+
+-- what was stored is loaded
+pub loaded-back : (s : State) → Fits s → loadedOf (areaOf s) ≡ loaded s
+unfolding loadedOf
+loaded-back s f = rw (area-is s f, read-back s f)
