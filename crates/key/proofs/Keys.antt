@@ -15,7 +15,7 @@ use Rattle.key.specs.declared.Found.{Found}
 use Rattle.key.specs.Key.{escape, hexWord, keyOf, keyOfParts, Name, bad, ended, stopped, readPlain, Parts, Fit, afterMaker, afterDevice, readKey, readOf, makerOf, deviceOf, isWords, wordOf}
 use Rattle.key.specs.Steps.{placed, strokeOf, foundOf}
 use Rattle.key.proofs.Reading.{Is, plain-is}
-use Rattle.key.proofs.Writing.{key-length}
+use Rattle.key.proofs.Writing.{key-length, escape-length}
 use Rattle.key.proofs.Words.{both, words-sound, word-below, tail-of}
 
 -- ---- where a name ends
@@ -172,6 +172,25 @@ given-maker k p (stopped m rest) i e = go (leb (length m) 32) refl
 pub key-given : (k : List ℕ) (p : Parts) → readKey k ≡ some p → Fit p × (k ≡ keyOfParts p)
 unfolding readKey
 key-given k p e = given-maker k p (readPlain k) (plain-is k) e
+
+-- no key has over 139 bytes
+pub long-no-key : (k : List ℕ) → 139 < length k → readKey k ≡ none
+long-no-key k h = go (readKey k) refl
+  where
+    go : (o : Option Parts) → readKey k ≡ o → readKey k ≡ none
+    go none e = e
+    go (some p) e =
+        let g = key-given k p e in
+        absurd
+        (omega (
+          arith,
+          h,
+          ap length (g .1),
+          key-length (p .maker) (p .device) (p .date) (p .serial),
+          escape-length (p .maker),
+          escape-length (p .device),
+          g .0,
+        ))
 
 -- ---- what is shown
 

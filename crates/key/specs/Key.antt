@@ -161,6 +161,10 @@ whole (stopped name rest) = none
 unfoldable pub unescaped : List ℕ → Option (List ℕ)
 unescaped bytes = whole (readPlain bytes)
 
+-- the name that a part of a key stands for: a name has up to 32 bytes, so a part has up to 64
+unfoldable pub nameIn : List ℕ → Option (List ℕ)
+nameIn part = cond (ltb 64 (length part)) none (unescaped part)
+
 -- answer 13 where the bytes are no escaped name, 12 where the room is too short for the plain name
 abbrev pub plainWrote : Option (List ℕ) → List ℕ → Wrote
 plainWrote none room = record { answer = 13; length = 0 }

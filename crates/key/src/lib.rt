@@ -4,7 +4,7 @@ ghost use Prim.Native.Nat.{_+_, _-_, _*_, _<_, _≤_};
 ghost use mathlib.Core.Option.{none};
 ghost use lib.ListN.{length, drop};
 ghost use lib.Seq.{sets};
-ghost use Rattle.key.specs.Key.{marked, escape, escapeByte, hexDigit, hexWord, wroteOf, roomAfter, readPlain, readEscaped, digitValue, isWord, wordOf, isWords, readKey, readOf, makerOf, deviceOf, unescaped, plainWrote, plainRoom};
+ghost use Rattle.key.specs.Key.{marked, escape, escapeByte, hexDigit, hexWord, wroteOf, roomAfter, readPlain, readEscaped, digitValue, isWord, wordOf, isWords, readKey, readOf, makerOf, deviceOf, unescaped, nameIn, plainWrote, plainRoom};
 ghost use Rattle.key.specs.Steps.{placed, strokeOf, foundOf, countOf, plainOf, pastMark};
 
 // An answer number, and how many bytes were written.
@@ -247,8 +247,17 @@ fn no_key() -> Found
     }
 }
 
-// The words of a key, and where its names stand.
+// The words of a key, and where its names stand. No key has over 139 bytes: so reading calls itself a few hundred times at most.
 fn find(key: &[u8]) -> Found
+    ensures { λ r. ⌜ r ≡ foundOf (readKey (now (key .entry))) ⌝ }
+{
+    if 139 < key.len() {
+        return no_key();
+    }
+    seek(key)
+}
+
+fn seek(key: &[u8]) -> Found
     ensures { λ r. ⌜ r ≡ foundOf (readKey (now (key .entry))) ⌝ }
 {
     let a = stroke(key, 0);
@@ -353,8 +362,21 @@ fn put_plain(part: &[u8], n: usize, room: &mut [u8])
     }
 }
 
-// An escaped name, written plain at the front of the room. Answer 12: the room is too short; 13: the bytes are no escaped name.
+// A name still escaped, written plain at the front of the room. Answer 12: the room is too short; 13: no key shows such a part.
 pub fn unescape(part: &[u8], room: &mut [u8]) -> Wrote
+    ensures { λ r. ⌜ r ≡ plainWrote (nameIn (now (part .entry))) (now (room .entry)) ⌝ }
+    ensures { λ _. ⌜ now (room .exit) ≡ plainRoom (nameIn (now (part .entry))) (now (room .entry)) ⌝ }
+{
+    if 64 < part.len() {
+        return Wrote {
+            answer: 13,
+            length: 0,
+        };
+    }
+    unescape_short(part, room)
+}
+
+fn unescape_short(part: &[u8], room: &mut [u8]) -> Wrote
     ensures { λ r. ⌜ r ≡ plainWrote (unescaped (now (part .entry))) (now (room .entry)) ⌝ }
     ensures { λ _. ⌜ now (room .exit) ≡ plainRoom (unescaped (now (part .entry))) (now (room .entry)) ⌝ }
 {

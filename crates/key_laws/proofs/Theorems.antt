@@ -7,7 +7,8 @@ use mathlib.Core.Option.{Option, none, some}
 use Prim.Native.Nat.{ℕ, _≤_}
 use native.Mathlib.Omega.{arith}
 use lib.ListN.{length, replicate}
-use Rattle.key.specs.Key.{escape, hexWord, keyOf, keyOfParts, Parts, Fit, IsKey, isWords, readKey, readOf, makerOf, deviceOf, unescaped}
+use borrow.Author.Tests.{le-ltb}
+use Rattle.key.specs.Key.{escape, hexWord, keyOf, keyOfParts, Parts, Fit, IsKey, isWords, readKey, readOf, makerOf, deviceOf, unescaped, nameIn}
 use Rattle.key.proofs.Reading.{read-ended}
 use Rattle.key.proofs.Writing.{key-length, escape-length}
 use Rattle.key.proofs.Keys.{key-given}
@@ -85,9 +86,14 @@ pub read-written : (p : Parts) → Fit p
     → (readOf (readKey (keyOfParts p)) ≡ record { answer = 0; date = p .date; serial = p .serial }) × (makerOf (readKey (keyOfParts p)) ≡ escape (p .maker)) × (deviceOf (readKey (keyOfParts p)) ≡ escape (p .device))
 read-written p f = let e = read-back p f in (ap readOf e, ap makerOf e, ap deviceOf e)
 
+-- the part that a name of up to 32 bytes is shown as stands for that name
+name-in : (name : List ℕ) → length name ≤ 32 → nameIn (escape name) ≡ some name
+unfolding nameIn
+name-in name h = simp (le-ltb 64 (length (escape name)) (omega (arith, escape-length name))) (unescape-escape name)
+
 -- and a reader of keys gets the very names that were put in
-pub names-back : (p : Parts) → Fit p → (unescaped (makerOf (readKey (keyOfParts p))) ≡ some (p .maker)) × (unescaped (deviceOf (readKey (keyOfParts p))) ≡ some (p .device))
-names-back p f = let e = read-back p f in (rw e (unescape-escape (p .maker)), rw e (unescape-escape (p .device)))
+pub names-back : (p : Parts) → Fit p → (nameIn (makerOf (readKey (keyOfParts p))) ≡ some (p .maker)) × (nameIn (deviceOf (readKey (keyOfParts p))) ≡ some (p .device))
+names-back p f = let e = read-back p f in (rw e (name-in (p .maker) (f .maker-fits)), rw e (name-in (p .device) (f .device-fits)))
 
 -- ---- 6: joined with a dash two packs merge, and here they have two keys
 
