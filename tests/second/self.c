@@ -844,7 +844,8 @@ static void keys(void)
     CHECK(sb2_key_unescape(text("A/B"), name, 32, &length), 13);
     CHECK(sb2_key_unescape(text("A\\B"), name, 32, &length), 13);
     CHECK(sb2_key_unescape(text("A\\"), name, 32, &length), 13);
-    CHECK(sb2_key_unescape(text("A"), name, 31, &length), 12);
+    CHECK(sb2_key_unescape(text("A\\/B"), name, 2, &length), 12);
+    CHECK(sb2_key_unescape(text("A\\"), name, 0, &length), 13);
     CHECK(sb2_key_read(text("//0000/0000"), &parts), 0);
     CHECK(sb2_key_read(text("A\\xB/P7/526f/0011"), &parts), 13);
     CHECK(parts.date, 0);
