@@ -15,7 +15,9 @@ static uint64_t number(const uint8_t **at, size_t bytes)
 
 static uint16_t word(const uint8_t **at)
 {
-    return (uint16_t)number(at, 2);
+    uint16_t value = (uint16_t)((*at)[0] | (*at)[1] << 8);
+    *at += 2;
+    return value;
 }
 
 /* A signed word, without a cast that the compiler defines. */
@@ -98,25 +100,32 @@ static void put(uint8_t **at, size_t bytes, uint64_t value)
     *at += bytes;
 }
 
+static void put_word(uint8_t **at, uint16_t value)
+{
+    (*at)[0] = (uint8_t)(value & 0xFF);
+    (*at)[1] = (uint8_t)(value >> 8);
+    *at += 2;
+}
+
 static void store_settings(uint8_t **at, const struct sb2_settings *s)
 {
-    put(at, 2, s->design_capacity);
-    put(at, 2, s->design_voltage);
-    put(at, 2, s->max_error);
-    put(at, 2, s->manufacture_date);
-    put(at, 2, s->serial_number);
-    put(at, 2, s->charging_current);
-    put(at, 2, s->charging_voltage);
-    put(at, 2, s->temperature_limit);
-    put(at, 2, s->discharge_limit);
+    put_word(at, s->design_capacity);
+    put_word(at, s->design_voltage);
+    put_word(at, s->max_error);
+    put_word(at, s->manufacture_date);
+    put_word(at, s->serial_number);
+    put_word(at, s->charging_current);
+    put_word(at, s->charging_voltage);
+    put_word(at, s->temperature_limit);
+    put_word(at, s->discharge_limit);
 }
 
 static void store_host(uint8_t **at, const struct sb2_host *h)
 {
-    put(at, 2, h->manufacturer_access);
-    put(at, 2, h->remaining_capacity_alarm);
-    put(at, 2, h->remaining_time_alarm);
-    put(at, 2, (uint16_t)h->at_rate);
+    put_word(at, h->manufacturer_access);
+    put_word(at, h->remaining_capacity_alarm);
+    put_word(at, h->remaining_time_alarm);
+    put_word(at, (uint16_t)h->at_rate);
     put(at, 1, h->alarm_mode);
     put(at, 1, h->charger_mode);
     put(at, 1, h->capacity_mode);
@@ -124,12 +133,12 @@ static void store_host(uint8_t **at, const struct sb2_host *h)
 
 static void store_measured(uint8_t **at, const struct sb2_sample *latest, const struct sb2_kept *kept)
 {
-    put(at, 2, latest->voltage);
-    put(at, 2, (uint16_t)latest->current);
-    put(at, 2, latest->temperature);
+    put_word(at, latest->voltage);
+    put_word(at, (uint16_t)latest->current);
+    put_word(at, latest->temperature);
     put(at, 4, latest->counter);
     for (size_t i = 0; i < SB2_KEPT; i++)
-        put(at, 2, (uint16_t)kept->current[i]);
+        put_word(at, (uint16_t)kept->current[i]);
     put(at, 1, kept->count);
 }
 
@@ -141,8 +150,8 @@ void sb2_area_store(const struct sb2_state *state, uint8_t area[SB2_AREA])
     store_host(&at, &state->host);
     store_measured(&at, &state->latest, &state->kept);
     put(&at, 8, state->tank.charge);
-    put(&at, 2, state->tank.full_capacity);
-    put(&at, 2, state->tank.cycle_count);
+    put_word(&at, state->tank.full_capacity);
+    put_word(&at, state->tank.cycle_count);
     put(&at, 1, state->tank.fully_discharged);
     put(&at, 4, state->timers.hold);
     put(&at, 4, state->timers.alarm);
