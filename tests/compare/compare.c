@@ -14,7 +14,7 @@
 #include <sys/mman.h>
 #include <unistd.h>
 
-enum { LEAST = 1000000, USUAL = 1500000, GUARD = 16, AREA_MOST = 372, ROOM_MOST = 200, PAGE = 4096, LENT_PAGES = 4 };
+enum { LEAST = 1000000, USUAL = 3000000, GUARD = 16, AREA_MOST = 372, ROOM_MOST = 200, PAGE = 4096, LENT_PAGES = 4 };
 
 static uint64_t seed, calls, wanted_calls;
 
@@ -500,6 +500,13 @@ static size_t play_write_sheet(bool likely)
     return length;
 }
 
+/* Moves one byte of one row, or the count of rows, by one. */
+static void bend_sheet(uint8_t at[145])
+{
+    size_t place = one_in(6) ? 0 : 1 + 4 * below(at[0] ? at[0] : 1) + below(4);
+    at[place] = (uint8_t)(at[place] + (one_in(2) ? 1 : -1));
+}
+
 /* A sheet, mostly good, put at `at`; gives its length. */
 static size_t some_sheet(uint8_t at[145])
 {
@@ -511,8 +518,8 @@ static size_t some_sheet(uint8_t at[145])
     switch (below(12)) {
     case 0: at[below((uint32_t)length)] ^= (uint8_t)(1u << below(8)); return length;
     case 1: return below((uint32_t)length);
-    case 2: at[below(9) < length ? below(9) : 0] = (uint8_t)below(40); return length;
-    case 3:
+    case 2: case 3: case 4: bend_sheet(at); return length;
+    case 5:
         if (length == 145)
             return length;
         at[length] = (uint8_t)draw();
@@ -527,6 +534,12 @@ static void play_sheets(void)
         (void)play_write_sheet(false);
     service_length = some_sheet(service);
     factory_length = some_sheet(factory);
+    if (one_in(8)) { /* one body of 32 or 33 bytes, which are there */
+        const uint8_t row[5] = {1, (uint8_t)(0x1F + below(6)), (uint8_t)(32 + below(2)), 5, 0};
+        memcpy(service, row, sizeof row);
+        fill(service + 5, 33);
+        service_length = 5u + row[2];
+    }
     for (int i = 0; i < 2; i++) {
         struct sb2_bytes sheet = lend(0, i ? factory : service, i ? factory_length : service_length);
         begin("is_sheet", 1, false, false);
@@ -690,6 +703,37 @@ static void play_unescape(const uint8_t *at, size_t length)
     came_up(UNESCAPE, (uint32_t)answer);
 }
 
+/* Puts a name of about 32 plain bytes, escaped, with a slash behind it. */
+static size_t put_long_name(uint8_t *at)
+{
+    size_t place = 0;
+    for (size_t left = one_in(2) ? 30 + below(6) : below(40); left > 0; left--) {
+        uint8_t byte = one_in(4) ? (one_in(2) ? 0x2F : 0x5C) : (uint8_t)draw();
+        if (byte == 0x2F || byte == 0x5C)
+            at[place++] = 0x5C;
+        at[place++] = byte;
+    }
+    at[place++] = 0x2F;
+    return place;
+}
+
+/* A key that was put together without the writer, its names too long at times. */
+static void play_long_key(void)
+{
+    uint8_t key[200];
+    size_t place = put_long_name(key);
+    if (one_in(2))
+        play_unescape(key, place - 1);
+    place += put_long_name(key + place);
+    for (int i = 0; i < 9; i++) {
+        static const char digits[] = "0123456789abcdef";
+        key[place++] = (uint8_t)(i == 4 ? '/' : digits[below(16)]);
+    }
+    if (one_in(8))
+        key[place - 1 - below(12)] = (uint8_t)draw();
+    play_read_key(key, place);
+}
+
 static void play_keys(void)
 {
     uint8_t maker[64], device[64], key[160];
@@ -717,6 +761,7 @@ static void play_keys(void)
         play_read_key(key, below((uint32_t)length));
         play_unescape(key, below((uint32_t)length));
     }
+    play_long_key();
     fill(key, sizeof key);
     play_read_key(key, below(sizeof key));
     play_unescape(maker, m.length);
@@ -736,10 +781,19 @@ static size_t some_capture(uint8_t *at)
         fill(at + place, length);
         place += length;
     }
+    size_t bent = below(1 + 2 * (uint32_t)rows);
     switch (below(10)) {
     case 0: return below((uint32_t)place + 1);
     case 1: return place + 1;
-    case 2: at[below(1 + 2 * (uint32_t)rows)] ^= (uint8_t)(1u << below(8)); return place;
+    case 2: at[bent] ^= (uint8_t)(1u << below(8)); return place;
+    case 3: at[bent] = (uint8_t)(at[bent] + (one_in(2) ? 1 : -1)); return place;
+    case 4: /* a row of 38 bytes, which are there */
+        if (rows == 0)
+            return place;
+        place -= at[2 * rows];
+        at[2 * rows] = (uint8_t)(37 + below(2));
+        fill(at + place, 38);
+        return place + at[2 * rows];
     default: return place;
     }
 }
@@ -762,7 +816,7 @@ static uint64_t play_step(struct sb2_bytes capture, size_t row, size_t place)
 
 static void play_captures(void)
 {
-    static uint8_t bytes[SB2_CAPTURE_MOST + 1];
+    static uint8_t bytes[SB2_CAPTURE_MOST + 2];
     struct sb2_walk walk;
     size_t length = some_capture(bytes);
     struct sb2_bytes capture = lend(0, bytes, length);
@@ -793,8 +847,8 @@ static void play(void)
     case 3: case 4: play_areas(); break;
     case 5: for (int i = 0; i < 20; i++) play_checks(); break;
     case 6: case 7: for (int i = 0; i < 10; i++) play_keys(); break;
-    case 8: play_sheets(); break;
-    default: play_captures(); break;
+    case 8: for (int i = 0; i < 20; i++) play_sheets(); break;
+    default: for (int i = 0; i < 20; i++) play_captures(); break;
     }
 }
 
