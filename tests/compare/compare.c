@@ -446,12 +446,8 @@ static size_t some_message(uint8_t at[64], bool *read)
     return length;
 }
 
-static void play_transact(bool whole)
+static void play_message(const uint8_t *message, size_t message_length, bool read, size_t length)
 {
-    uint8_t message[64];
-    bool read;
-    size_t message_length = some_message(message, &read);
-    size_t length = whole ? SNATCHBLOCK_AREA : area_size();
     lend_area(state_area, length);
     lend_room(room_size(SB2_REPLY_ROOM));
     struct sb2_bytes s = lend(0, service, service_length);
@@ -468,6 +464,14 @@ static void play_transact(bool whole)
     if (answer == SB2_SERVED)
         other[(read ? READ_SERVED : WRITE_SERVED) + message[1]]++;
     keep_area();
+}
+
+static void play_transact(bool whole)
+{
+    uint8_t message[64];
+    bool read;
+    size_t length = some_message(message, &read);
+    play_message(message, length, read, whole ? SNATCHBLOCK_AREA : area_size());
 }
 
 /* ---- sheets */
@@ -608,6 +612,44 @@ static void bend_area(void)
     }
 }
 
+static uint64_t magnitude(int16_t value)
+{
+    return (uint64_t)(value < 0 ? -(int32_t)value : value);
+}
+
+/* Reads AtRateOK with a charge that just covers 10 s, or is one mA·ms off it. */
+static void play_at_rate_ok(void)
+{
+    static const uint16_t even_voltages[] = {1, 10, 5000, 10000, 12500, 20000}; /* divisors of 100,000,000 */
+    struct sb2_state state;
+    if (one_in(2))
+        put(3, 2, even_voltages[below(sizeof even_voltages / sizeof *even_voltages)]);
+    put(25, 2, (uint16_t)(one_in(4) ? 0x8000 : 0xFFFF - below(3000)));
+    put(29, 1, below(2));
+    put(169, 2, 65535);
+    (void)sb2_area_load(bytes_of(state_area, SNATCHBLOCK_AREA), &state);
+    uint64_t design = state.settings.design_voltage ? state.settings.design_voltage : 1;
+    uint64_t rate = magnitude(state.host.at_rate) * 10000;
+    uint64_t discharge = state.latest.current < 0 ? magnitude(state.latest.current) * 10000 : 0;
+    put(161, 8, (state.host.capacity_mode ? (rate * 10000 + design - 1) / design : rate) + discharge - 1 + below(3));
+    const uint8_t message[3] = {0x16, 0x07, 0x17};
+    play_message(message, 3, true, SNATCHBLOCK_AREA);
+}
+
+/* Reads the status with RemainingTimeAlarm at the word 12, or one off it. */
+static void play_time_alarm(void)
+{
+    struct sb2_state state;
+    if (!sb2_area_load(bytes_of(state_area, SNATCHBLOCK_AREA), &state) || !sb2_sound(&state))
+        return;
+    const uint8_t ask[3] = {0x16, 0x12, 0x17};
+    play_message(ask, 3, true, SNATCHBLOCK_AREA);
+    if (room.length >= SB2_REPLY_ROOM)
+        put(23, 2, (uint64_t)(room.s[0] | room.s[1] << 8) - 1 + below(3));
+    const uint8_t status[3] = {0x16, 0x16, 0x17};
+    play_message(status, 3, true, SNATCHBLOCK_AREA);
+}
+
 static void play_areas(void)
 {
     play_set_up(true);
@@ -627,6 +669,11 @@ static void play_areas(void)
             play_transact(false);
         if (!sb2_area_sound(bytes_of(state_area, SNATCHBLOCK_AREA)))
             memcpy(state_area, kept, sizeof kept);
+    }
+    for (int i = 0; i < 8; i++) {
+        play_set_up(true);
+        play_time_alarm();
+        play_at_rate_ok();
     }
     for (int i = 0; i < 8; i++)
         play_set_up(false);
