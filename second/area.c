@@ -1,7 +1,7 @@
 /* The state in a lent area of 186 bytes, as a firmware keeps it over the winter. */
 #include "snatchblock2.h"
 
-enum { FIRST_FLAGS = 27, FLAGS = 3, LAST_FLAG = 173 };
+enum { HOST = 19, FIRST_FLAGS = 27, FLAGS = 3, LAST_FLAG = 173, TIMERS = 174 };
 
 /* The number that so many bytes stand for, low byte first. */
 static uint64_t number(const uint8_t **at, size_t bytes)
@@ -142,6 +142,13 @@ static void store_measured(uint8_t **at, const struct sb2_sample *latest, const 
     put(at, 1, kept->count);
 }
 
+static void store_timers(uint8_t **at, const struct sb2_timers *t)
+{
+    put(at, 4, t->hold);
+    put(at, 4, t->alarm);
+    put(at, 4, t->charger);
+}
+
 void sb2_area_store(const struct sb2_state *state, uint8_t area[SB2_AREA])
 {
     uint8_t *at = area;
@@ -153,9 +160,18 @@ void sb2_area_store(const struct sb2_state *state, uint8_t area[SB2_AREA])
     put_word(&at, state->tank.full_capacity);
     put_word(&at, state->tank.cycle_count);
     put(&at, 1, state->tank.fully_discharged);
-    put(&at, 4, state->timers.hold);
-    put(&at, 4, state->timers.alarm);
-    put(&at, 4, state->timers.charger);
+    store_timers(&at, &state->timers);
+}
+
+/* Writes what a transaction can change: error code, the host's words, timers. */
+static void store_transacted(const struct sb2_state *state, uint8_t area[SB2_AREA])
+{
+    uint8_t *at = area;
+    put(&at, 1, state->error_code);
+    at = area + HOST;
+    store_host(&at, &state->host);
+    at = area + TIMERS;
+    store_timers(&at, &state->timers);
 }
 
 int sb2_area_set_up(uint8_t *area, size_t area_length, const struct sb2_set_up *in)
@@ -199,6 +215,6 @@ int sb2_area_transact(uint8_t *area, size_t area_length, bool read, struct sb2_b
         return SB2_NOT_SOUND;
     int answer = sb2_transact(&state, read, message, service, factory, room, room_length, length);
     if (answer > SB2_NOT_FOR_PACK || answer == SB2_SERVED)
-        sb2_area_store(&state, area);
+        store_transacted(&state, area);
     return answer;
 }
