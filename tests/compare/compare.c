@@ -681,8 +681,21 @@ static void play_areas(void)
 
 /* ---- check bytes */
 
+/* PEC has no longest message. */
+static void play_long_pec(void)
+{
+    static uint8_t bytes[3000];
+    fill(bytes, sizeof bytes);
+    struct sb2_bytes message = lend(0, bytes, below(sizeof bytes + 1));
+    begin("pec", 1, false, false);
+    compare(snatchblock_pec(message.at, message.length), sb2_pec(message));
+    came_up(PEC, 0);
+}
+
 static void play_checks(void)
 {
+    if (one_in(50))
+        play_long_pec();
     uint8_t a[80], b[80];
     size_t a_length = one_in(4) ? below(80) : below(40);
     size_t b_length = one_in(8) ? below(80) : a_length;
