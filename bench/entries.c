@@ -16,6 +16,7 @@ static uint8_t area[SNATCHBLOCK_AREA];
 static struct sb2_state state;
 static uint8_t room[256];
 static uint8_t text[4096];
+static uint8_t letters[1024];
 static uint8_t sheet[145];
 static uint8_t capture[1 + 40 * 39];
 static uint8_t key[139];
@@ -111,6 +112,20 @@ static void read_key_c(void)
 {
     struct sb2_key parts;
     sink = (uint64_t)sb2_key_read(of(key, key_length), &parts);
+}
+
+/* bytes without a slash: no key; one name */
+static void no_slash_p(void) { sink = snatchblock_read_key(letters, size); }
+static void no_slash_c(void)
+{
+    struct sb2_key parts;
+    sink = (uint64_t)sb2_key_read(of(letters, size), &parts);
+}
+static void unescape_p(void) { sink = snatchblock_unescape(letters, size, room, sizeof room); }
+static void unescape_c(void)
+{
+    size_t length;
+    sink = (uint64_t)sb2_key_unescape(of(letters, size), room, sizeof room, &length);
 }
 
 static void is_sheet_p(void) { sink = snatchblock_is_sheet(sheet, sheet_length); }
@@ -212,6 +227,10 @@ static void make_entries(void)
     add_sized("write-key-names", 8, write_key_p, write_key_c);
     add_sized("write-key-names", 32, write_key_p, write_key_c);
     add("read-key", read_key_p, read_key_c, NULL);
+    add_sized("read-key-no-slash", 139, no_slash_p, no_slash_c);
+    add_sized("read-key-no-slash", 1024, no_slash_p, no_slash_c);
+    add_sized("unescape", 32, unescape_p, unescape_c);
+    add_sized("unescape", 64, unescape_p, unescape_c);
     add("write-sheet", write_sheet_p, write_sheet_c, NULL);
     add("is-sheet", is_sheet_p, is_sheet_c, NULL);
     add("block", block_p, block_c, NULL);
@@ -251,6 +270,7 @@ static void make_data(void)
 {
     for (size_t i = 0; i < sizeof text; i++)
         text[i] = (uint8_t)(i * 73 + 41);
+    memset(letters, 0x41, sizeof letters);
     struct sb2_body body = {true, of(text, 32)};
     struct sb2_body bodies[4] = {body, body, body, body};
     (void)sb2_sheet_write(bodies, sheet, sizeof sheet, &sheet_length);

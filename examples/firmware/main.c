@@ -9,7 +9,6 @@
 #include <string.h>
 
 enum { SECOND = 1000, MINUTE = 60, HOUR = 3600, DAY = 24 * HOUR };
-enum { REPLY_ROOM = 34, BROADCAST_ROOM = 16 };
 enum { RUN_FROM = 7 * HOUR, ALARM_WARNING = 0x16, HOST = 0x10, CHARGER = 0x12 };
 
 /* ---- what the board keeps: the state's area, and the sheets in flash */
@@ -100,20 +99,20 @@ static void send(uint32_t second, const uint8_t message[4])
 }
 
 /* One transaction as the driver's interrupt hands it over; gives the reply's length. */
-static size_t on_message(bool read, const uint8_t *bytes, size_t length, uint8_t reply[REPLY_ROOM])
+static size_t on_message(bool read, const uint8_t *bytes, size_t length, uint8_t reply[SNATCHBLOCK_REPLY_ROOM])
 {
     uint32_t result = snatchblock_transact(area, sizeof area, service_sheet, sizeof service_sheet, factory_sheet,
-                                           sizeof factory_sheet, read, bytes, length, reply, REPLY_ROOM);
-    uint8_t answer = result & 0xFF;
+                                           sizeof factory_sheet, read, bytes, length, reply, SNATCHBLOCK_REPLY_ROOM);
+    unsigned answer = SNATCHBLOCK_ANSWER(result);
     if (answer != 0 && answer != 10)
         refused++;
-    return result >> 8;
+    return SNATCHBLOCK_LENGTH(result);
 }
 
 /* The host's side of a read: it checks the exchange, and asks again of a damaged one. */
 static uint16_t host_reads(uint8_t command)
 {
-    uint8_t exchange[3 + REPLY_ROOM] = {0x16, command, 0x17};
+    uint8_t exchange[3 + SNATCHBLOCK_REPLY_ROOM] = {0x16, command, 0x17};
     size_t length = on_message(true, exchange, 3, exchange + 3);
     if (snatchblock_exchange_check(exchange, 3 + length) != 1u << 8) {
         fprintf(stderr, "firmware: a reply to %02x is damaged\n", command);
@@ -125,7 +124,7 @@ static uint16_t host_reads(uint8_t command)
 static void host_writes(uint8_t command, uint16_t word)
 {
     uint8_t bytes[5] = {0x16, command, (uint8_t)(word & 0xFF), (uint8_t)(word >> 8)};
-    uint8_t reply[REPLY_ROOM];
+    uint8_t reply[SNATCHBLOCK_REPLY_ROOM];
     bytes[4] = snatchblock_pec(bytes, 4);
     (void)on_message(false, bytes, sizeof bytes, reply);
 }
@@ -153,15 +152,15 @@ static void start(void)
 static uint16_t on_second(uint32_t second)
 {
     struct reading now = measure(second, allowed_current);
-    uint8_t room[BROADCAST_ROOM];
+    uint8_t room[SNATCHBLOCK_BROADCAST_ROOM];
     uint32_t result = snatchblock_sample(area, sizeof area, now.millivolts, now.milliamps, now.temperature, counter_at(second),
                                          room, sizeof room);
-    if ((result & 0xFF) != 0) {
-        fprintf(stderr, "firmware: a sample answers %u\n", result & 0xFF);
+    if (SNATCHBLOCK_ANSWER(result) != 0) {
+        fprintf(stderr, "firmware: a sample answers %u\n", SNATCHBLOCK_ANSWER(result));
         exit(1);
     }
     uint16_t alarm = 0;
-    for (size_t at = 0; at < result >> 8; at += 4) {
+    for (size_t at = 0; at < SNATCHBLOCK_LENGTH(result); at += 4) {
         send(second, room + at);
         if (room[at] == HOST)
             alarm = (uint16_t)(room[at + 2] | room[at + 3] << 8);

@@ -470,6 +470,26 @@ static void unescaping(void)
     CHECK(room_is(NULL, 0), true);
 }
 
+/* Bytes of every length get an answer: megabytes without a slash need no deep stack. */
+static void long_bytes(void)
+{
+    static uint8_t bytes[1 << 24];
+    const uint8_t all[] = {0x00, 0x2F, 0x5C, 0x41};
+    for (size_t i = 0; i < sizeof all; i++) {
+        memset(bytes, all[i], sizeof bytes);
+        new_room();
+        uint32_t plain = snatchblock_unescape(bytes, sizeof bytes, room, ROOM_MOST);
+        CHECK(plain == 12 || plain == 13, true);
+        CHECK(snatchblock_read_key(bytes, sizeof bytes), 13);
+        CHECK(snatchblock_is_sheet(bytes, sizeof bytes), false);
+        CHECK(snatchblock_open_capture(bytes, sizeof bytes), 14);
+        CHECK(snatchblock_exchange_check(bytes, sizeof bytes), 15);
+        CHECK(snatchblock_sound(bytes, sizeof bytes), false);
+        CHECK(snatchblock_write_key(bytes, sizeof bytes, bytes, sizeof bytes, 0, 0, room, KEY_ROOM), 12);
+        CHECK(room_is(NULL, 0), true);
+    }
+}
+
 /* ---- sheets */
 
 static void sheet_writing(void)
@@ -568,6 +588,12 @@ static void captures(void)
 
 int main(void)
 {
+    CHECK(SNATCHBLOCK_REPLY_ROOM, REPLY_ROOM);
+    CHECK(SNATCHBLOCK_BROADCAST_ROOM, BROADCAST_ROOM);
+    CHECK(SNATCHBLOCK_KEY_ROOM, KEY_ROOM);
+    CHECK(SNATCHBLOCK_SHEET_ROOM, SHEET_ROOM);
+    CHECK(SNATCHBLOCK_ANSWER(PACKED(10, 3)), 10);
+    CHECK(SNATCHBLOCK_LENGTH(PACKED(10, 3)), 3);
     set_ups();
     layout();
     soundness();
@@ -581,6 +607,7 @@ int main(void)
     key_writing();
     key_reading();
     unescaping();
+    long_bytes();
     sheet_writing();
     blocks();
     bad_sheets();
