@@ -471,23 +471,29 @@ static void unescaping(void)
 }
 
 /* Bytes of every length get an answer: megabytes without a slash need no deep stack. */
-static void long_bytes(void)
+static void long_bytes_of(uint8_t byte, size_t length)
 {
     static uint8_t bytes[1 << 24];
-    const uint8_t all[] = {0x00, 0x2F, 0x5C, 0x41};
-    for (size_t i = 0; i < sizeof all; i++) {
-        memset(bytes, all[i], sizeof bytes);
-        new_room();
-        uint32_t plain = snatchblock_unescape(bytes, sizeof bytes, room, ROOM_MOST);
-        CHECK(plain == 12 || plain == 13, true);
-        CHECK(snatchblock_read_key(bytes, sizeof bytes), 13);
-        CHECK(snatchblock_is_sheet(bytes, sizeof bytes), false);
-        CHECK(snatchblock_open_capture(bytes, sizeof bytes), 14);
-        CHECK(snatchblock_exchange_check(bytes, sizeof bytes), 15);
-        CHECK(snatchblock_sound(bytes, sizeof bytes), false);
-        CHECK(snatchblock_write_key(bytes, sizeof bytes, bytes, sizeof bytes, 0, 0, room, KEY_ROOM), 12);
-        CHECK(room_is(NULL, 0), true);
-    }
+    memset(bytes, byte, length);
+    new_room();
+    uint32_t plain = snatchblock_unescape(bytes, length, room, ROOM_MOST);
+    CHECK(plain == 12 || plain == 13, true);
+    CHECK(snatchblock_read_key(bytes, length), 13);
+    CHECK(snatchblock_is_sheet(bytes, length), false);
+    CHECK(snatchblock_open_capture(bytes, length), 14);
+    CHECK(snatchblock_exchange_check(bytes, length), 15);
+    CHECK(snatchblock_sound(bytes, length), false);
+    CHECK(snatchblock_write_key(bytes, length, bytes, length, 0, 0, room, KEY_ROOM), 12);
+    CHECK(room_is(NULL, 0), true);
+}
+
+static void long_bytes(void)
+{
+    static const uint8_t all[] = {0x00, 0x2F, 0x5C, 0x41};
+    static const size_t lengths[] = {1 << 10, 1 << 16, 1 << 20, (1 << 24) - 2, (1 << 24) - 1, 1 << 24};
+    for (size_t i = 0; i < sizeof all; i++)
+        for (size_t j = 0; j < sizeof lengths / sizeof *lengths; j++)
+            long_bytes_of(all[i], lengths[j]);
 }
 
 /* ---- sheets */
