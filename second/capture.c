@@ -41,6 +41,8 @@ bool sb2_walk_next(struct sb2_walk *walk, struct sb2_row *row)
     if (walk->capture.length == 0 || walk->row >= walk->capture.at[0])
         return false;
     const uint8_t *head = walk->capture.at + 1 + 2 * walk->row;
+    if (walk->place > walk->capture.length || walk->capture.length - walk->place < head[1])
+        return false;
     row->read = head[0] == 1;
     row->body.offset = walk->place;
     row->body.length = head[1];

@@ -47,11 +47,11 @@ int sb2_key_write(struct sb2_bytes maker, struct sb2_bytes device, uint16_t date
     return SB2_SERVED;
 }
 
-/* Walks an escaped name up to a plain slash or the end; false at a bad escape or over 32 bytes (rule: Key). */
-static bool pass_name(struct sb2_bytes key, size_t *place)
+/* Walks an escaped name up to a plain slash or the end and counts its plain bytes; false at a bad escape (rule: Key). */
+static bool pass_name(struct sb2_bytes key, size_t *place, size_t *count)
 {
     size_t i = *place;
-    size_t count = 0;
+    *count = 0;
     while (i < key.length && key.at[i] != SLASH) {
         if (key.at[i] == ESCAPE) {
             i++;
@@ -59,10 +59,17 @@ static bool pass_name(struct sb2_bytes key, size_t *place)
                 return false;
         }
         i++;
-        count++;
+        ++*count;
     }
     *place = i;
-    return count <= SB2_NAME_MOST;
+    return true;
+}
+
+/* The same for a name of a key, which has at most 32 bytes (rule: Key). */
+static bool pass_short_name(struct sb2_bytes key, size_t *place)
+{
+    size_t count;
+    return pass_name(key, place, &count) && count <= SB2_NAME_MOST;
 }
 
 /* Takes a slash; false if none stands there (rule: Key). */
@@ -101,13 +108,13 @@ int sb2_key_read(struct sb2_bytes key, struct sb2_key *parts)
     struct sb2_key found = {{0, 0}, {0, 0}, 0, 0};
     *parts = found;
     size_t place = 0;
-    if (!pass_name(key, &place))
+    if (!pass_short_name(key, &place))
         return SB2_NOT_A_KEY;
     found.maker.length = place;
     if (!pass_slash(key, &place))
         return SB2_NOT_A_KEY;
     found.device.offset = place;
-    if (!pass_name(key, &place))
+    if (!pass_short_name(key, &place))
         return SB2_NOT_A_KEY;
     found.device.length = place - found.device.offset;
     if (!pass_slash(key, &place) || !pass_word(key, &place, &found.date) || !pass_slash(key, &place) ||
@@ -117,15 +124,16 @@ int sb2_key_read(struct sb2_bytes key, struct sb2_key *parts)
     return SB2_SERVED;
 }
 
-/* 12 for a room under 32, 13 unless the bytes are one escaped name, else its plain bytes (rule: Key). */
+/* 13 unless the bytes are one escaped name, 12 for a room shorter than it, else its plain bytes (rule: Key). */
 int sb2_key_unescape(struct sb2_bytes name, uint8_t *room, size_t room_length, size_t *length)
 {
     *length = 0;
-    if (room_length < SB2_NAME_MOST)
-        return SB2_CANNOT_WRITE;
     size_t end = 0;
-    if (!pass_name(name, &end) || end != name.length)
+    size_t count;
+    if (!pass_name(name, &end, &count) || end != name.length)
         return SB2_NOT_A_KEY;
+    if (room_length < count)
+        return SB2_CANNOT_WRITE;
     size_t place = 0;
     for (size_t i = 0; i < name.length; i++) {
         if (name.at[i] == ESCAPE)

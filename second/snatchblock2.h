@@ -44,6 +44,7 @@ enum {
     SB2_NAME_MOST = 32,
     SB2_MESSAGE_MOST = 37,
     SB2_CAPTURE_MOST = 1 + 255 * 39,
+    SB2_AREA = 186,
     SB2_KEPT = 60,
     SB2_HOLD_MS = 60000,
     SB2_ALARM_MS = 10000,
@@ -178,6 +179,31 @@ enum sb2_kind sb2_kind_of(uint8_t command);
 int sb2_transact(struct sb2_state *state, bool read, struct sb2_bytes message, struct sb2_bytes service,
                  struct sb2_bytes factory, uint8_t *room, size_t room_length, size_t *length);
 
+/* ---- the state in an area
+
+ * 186 bytes, every number low byte first, a flag 0 or 1; at byte
+ *     0  error code, one byte
+ *     1  the nine words of sb2_settings in their order
+ *    19  the four words of sb2_host in their order, then its three flags
+ *    30  voltage, current and temperature of the latest sample; 36: its counter, four bytes
+ *    40  the 60 kept currents, newest first; 160: how many are kept, one byte
+ *   161  charge, eight bytes; full capacity; cycle count; 173: the flag of bit 4
+ *   174  hold, alarm timer and charger timer, four bytes each */
+
+/* Reads an area; false, and no state, if it has another size or a flag byte over 1. */
+bool sb2_area_load(struct sb2_bytes area, struct sb2_state *state);
+
+/* Writes a state; its error code and count must fit a byte. */
+void sb2_area_store(const struct sb2_state *state, uint8_t area[SB2_AREA]);
+
+/* The four entries over an area. Bytes that are no area answer 1, and only answers that leave a state write it. */
+int sb2_area_set_up(uint8_t *area, size_t area_length, const struct sb2_set_up *in);
+bool sb2_area_sound(struct sb2_bytes area);
+int sb2_area_take_sample(uint8_t *area, size_t area_length, const struct sb2_sample *sample, uint8_t *room,
+                         size_t room_length, size_t *length);
+int sb2_area_transact(uint8_t *area, size_t area_length, bool read, struct sb2_bytes message, struct sb2_bytes service,
+                      struct sb2_bytes factory, uint8_t *room, size_t room_length, size_t *length);
+
 /* ---- check bytes */
 
 /* The check byte of a message of any length (rule: PEC). */
@@ -212,7 +238,8 @@ int sb2_key_write(struct sb2_bytes maker, struct sb2_bytes device, uint16_t date
 /* Reads a key: answers 0 with its parts, or 13 with none (rule: Key). */
 int sb2_key_read(struct sb2_bytes key, struct sb2_key *parts);
 
-/* Writes the plain bytes of an escaped name: answers 0, 12 for a room under 32, 13 for no such name (rule: Key). */
+/* Writes the plain bytes of an escaped name of any length: answers 0, 13 for bytes that are none, or 12 for a
+ * room that is shorter than the plain name (rule: Key). */
 int sb2_key_unescape(struct sb2_bytes name, uint8_t *room, size_t room_length, size_t *length);
 
 /* ---- pack sheets */
@@ -259,7 +286,8 @@ int sb2_capture_test(struct sb2_bytes capture);
 /* Starts a walk: answers 0, or 14 with a walk over nothing (rule: Pack sheet and capture). */
 int sb2_walk_begin(struct sb2_bytes capture, struct sb2_walk *walk);
 
-/* Takes the next row; false, and an empty row, when none is left (rule: Pack sheet and capture). */
+/* Takes the next row; false, and an empty row, when none is left or its body isn't there at the walk's place
+ * (rule: Pack sheet and capture). */
 bool sb2_walk_next(struct sb2_walk *walk, struct sb2_row *row);
 
 #endif

@@ -844,7 +844,8 @@ static void keys(void)
     CHECK(sb2_key_unescape(text("A/B"), name, 32, &length), 13);
     CHECK(sb2_key_unescape(text("A\\B"), name, 32, &length), 13);
     CHECK(sb2_key_unescape(text("A\\"), name, 32, &length), 13);
-    CHECK(sb2_key_unescape(text("A"), name, 31, &length), 12);
+    CHECK(sb2_key_unescape(text("A\\/B"), name, 2, &length), 12);
+    CHECK(sb2_key_unescape(text("A\\"), name, 0, &length), 13);
     CHECK(sb2_key_read(text("//0000/0000"), &parts), 0);
     CHECK(sb2_key_read(text("A\\xB/P7/526f/0011"), &parts), 13);
     CHECK(parts.date, 0);
@@ -988,6 +989,40 @@ static void long_work(void)
         CHECK(answers[number] > 0, true);
 }
 
+/* A state goes into an area and comes back; other bytes are none. */
+static void areas(void)
+{
+    uint8_t area[2 * SB2_AREA], again[SB2_AREA], room[SB2_REPLY_ROOM];
+    struct sb2_set_up in = usual;
+    struct sb2_state state, back;
+    size_t length;
+    in.first = (struct sb2_sample){14000, -32768, 2981, 0xFFFFFFF0u};
+    CHECK(sb2_set_up(&state, &in), 0);
+    sb2_area_store(&state, area);
+    CHECK(sb2_area_load(bytes(area, SB2_AREA), &back), true);
+    CHECK(sb2_same(&state, &back), true);
+    CHECK(sb2_area_set_up(again, SB2_AREA, &in), 0);
+    CHECK(memcmp(area, again, SB2_AREA), 0);
+    /* the bytes at the places that the header names: current, counter, count, alarm timer */
+    CHECK(area[33], 0x80);
+    CHECK(area[36], 0xF0);
+    CHECK(area[160], 1);
+    CHECK(area[178] | area[179] << 8, 10000);
+    for (size_t size = 0; size <= sizeof area; size++)
+        CHECK(sb2_area_load(bytes(area, size), &back), size == SB2_AREA);
+    static const size_t flags[] = {27, 28, 29, 173};
+    for (size_t i = 0; i < 4; i++) {
+        uint8_t kept = area[flags[i]];
+        area[flags[i]] = 2;
+        CHECK(sb2_area_sound(bytes(area, SB2_AREA)), false);
+        CHECK(sb2_area_transact(area, SB2_AREA, true, BYTES(0x16, 9, 0x17), NO_NAMES, NO_NAMES, room, 34, &length), 1);
+        area[flags[i]] = kept;
+    }
+    in.full_capacity = 0;
+    CHECK(sb2_area_set_up(again, SB2_AREA, &in), 11);
+    CHECK(memcmp(area, again, SB2_AREA), 0);
+}
+
 int main(void)
 {
     worked_examples();
@@ -1000,6 +1035,7 @@ int main(void)
     sheets();
     captures();
     keys();
+    areas();
     long_work();
     printf("second: %u passed, %u failed\n", passed, failed);
     return failed == 0 ? 0 : 1;

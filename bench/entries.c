@@ -1,0 +1,359 @@
+/* The proved library's entries beside the second program's, for bench/entries.sh:
+ *   entries names           a line for each case
+ *   entries WHICH REPEAT    each case REPEAT times, each ended by a call of boundary()
+ *   entries stack WHICH     the stack that each case takes, in bytes
+ * WHICH is p (proved), c (the second program over an area) or s (the second program on its own state). */
+#define _XOPEN_SOURCE 700
+#include "snatchblock.h"
+#include "../second/snatchblock2.h"
+
+#include <stdio.h>
+#include <stdlib.h>
+#include <string.h>
+#include <ucontext.h>
+
+static uint8_t area[SNATCHBLOCK_AREA];
+static struct sb2_state state;
+static uint8_t room[256];
+static uint8_t text[4096];
+static uint8_t letters[1024];
+static uint8_t sheet[145];
+static uint8_t capture[1 + 40 * 39];
+static uint8_t key[139];
+static size_t sheet_length, capture_length, key_length, size;
+static uint32_t counter;
+static uint8_t message[5] = {0x16};
+static bool reading;
+static size_t message_length;
+static volatile uint64_t sink;
+
+static struct sb2_bytes of(const uint8_t *at, size_t length)
+{
+    return (struct sb2_bytes){at, length};
+}
+
+/* ---- the calls: p, c and where a state is in play s */
+
+static void nothing(void) {}
+
+static void pec_p(void) { sink = snatchblock_pec(text, size); }
+static void pec_c(void) { sink = sb2_pec(of(text, size)); }
+
+static void exchange_p(void) { sink = snatchblock_exchange_check(text, size); }
+static void exchange_c(void)
+{
+    bool accepted;
+    sink = (uint64_t)sb2_check_exchange(of(text, size), &accepted);
+}
+
+static void bits_p(void) { sink = snatchblock_bit_comparison(text, size, text + 64, size); }
+static void bits_c(void)
+{
+    uint32_t bits;
+    sink = (uint64_t)sb2_compare(of(text, size), of(text + 64, size), &bits);
+}
+
+static void transact_p(void)
+{
+    sink = snatchblock_transact(area, sizeof area, sheet, sheet_length, sheet, sheet_length, reading, message,
+                                message_length, room, 34);
+}
+static void transact_c(void)
+{
+    size_t length;
+    sink = (uint64_t)sb2_area_transact(area, sizeof area, reading, of(message, message_length), of(sheet, sheet_length),
+                                       of(sheet, sheet_length), room, 34, &length);
+}
+static void transact_s(void)
+{
+    size_t length;
+    sink = (uint64_t)sb2_transact(&state, reading, of(message, message_length), of(sheet, sheet_length),
+                                  of(sheet, sheet_length), room, 34, &length);
+}
+
+/* 1 ms on: no message is due. */
+static void quiet_p(void) { sink = snatchblock_sample(area, sizeof area, 14800, -5, 2981, ++counter, room, 16); }
+static void quiet_c(void)
+{
+    size_t length;
+    struct sb2_sample sample = {14800, -5, 2981, ++counter};
+    sink = (uint64_t)sb2_area_take_sample(area, sizeof area, &sample, room, 16, &length);
+}
+static void quiet_s(void)
+{
+    size_t length;
+    struct sb2_sample sample = {14800, -5, 2981, ++counter};
+    sink = (uint64_t)sb2_take_sample(&state, &sample, room, 16, &length);
+}
+
+/* 30,000 ms on, hot and charging: four messages each time. */
+static void loud_p(void) { sink = snatchblock_sample(area, sizeof area, 14800, 5, 4000, counter += 30000, room, 16); }
+static void loud_c(void)
+{
+    size_t length;
+    struct sb2_sample sample = {14800, 5, 4000, counter += 30000};
+    sink = (uint64_t)sb2_area_take_sample(area, sizeof area, &sample, room, 16, &length);
+}
+static void loud_s(void)
+{
+    size_t length;
+    struct sb2_sample sample = {14800, 5, 4000, counter += 30000};
+    sink = (uint64_t)sb2_take_sample(&state, &sample, room, 16, &length);
+}
+
+static void write_key_p(void) { sink = snatchblock_write_key(text, size, text + 64, size, 0x526F, 17, room, 139); }
+static void write_key_c(void)
+{
+    size_t length;
+    sink = (uint64_t)sb2_key_write(of(text, size), of(text + 64, size), 0x526F, 17, room, 139, &length);
+}
+static void read_key_p(void) { sink = snatchblock_read_key(key, key_length); }
+static void read_key_c(void)
+{
+    struct sb2_key parts;
+    sink = (uint64_t)sb2_key_read(of(key, key_length), &parts);
+}
+
+/* bytes without a slash: no key; one name */
+static void no_slash_p(void) { sink = snatchblock_read_key(letters, size); }
+static void no_slash_c(void)
+{
+    struct sb2_key parts;
+    sink = (uint64_t)sb2_key_read(of(letters, size), &parts);
+}
+static void unescape_p(void) { sink = snatchblock_unescape(letters, size, room, sizeof room); }
+static void unescape_c(void)
+{
+    size_t length;
+    sink = (uint64_t)sb2_key_unescape(of(letters, size), room, sizeof room, &length);
+}
+
+static void is_sheet_p(void) { sink = snatchblock_is_sheet(sheet, sheet_length); }
+static void is_sheet_c(void) { sink = sb2_sheet_good(of(sheet, sheet_length)); }
+static void write_sheet_p(void)
+{
+    sink = snatchblock_write_sheet(room, 145, true, text, 32, true, text, 32, true, text, 32, true, text, 32);
+}
+static void write_sheet_c(void)
+{
+    size_t length;
+    struct sb2_body body = {true, of(text, 32)};
+    struct sb2_body bodies[4] = {body, body, body, body};
+    sink = (uint64_t)sb2_sheet_write(bodies, room, 145, &length);
+}
+static void block_p(void) { sink = snatchblock_block(sheet, sheet_length, sheet, sheet_length, 0x23); }
+static void block_c(void)
+{
+    struct sb2_block block;
+    sink = (uint64_t)sb2_sheet_block(of(sheet, sheet_length), of(sheet, sheet_length), 0x23, &block);
+}
+
+static void open_p(void) { sink = snatchblock_open_capture(capture, capture_length); }
+static void open_c(void)
+{
+    struct sb2_walk walk;
+    sink = (uint64_t)sb2_walk_begin(of(capture, capture_length), &walk);
+}
+static void step_p(void) { sink = snatchblock_step_capture(capture, capture_length, 0, 81); }
+static void step_c(void)
+{
+    struct sb2_walk walk = {of(capture, capture_length), 0, 81};
+    struct sb2_row row;
+    sink = (uint64_t)sb2_capture_test(walk.capture);
+    sink = sb2_walk_next(&walk, &row);
+}
+
+static void set_up_p(void)
+{
+    sink = snatchblock_set_up(area, sizeof area, 4000, 4000, 2000, 14800, 2, 7, 0x526F, 17, 2000, 16800, 3182, 11000, 14800,
+                              -1500, 2981, 0);
+}
+static const struct sb2_set_up figures = {4000, 4000, 2000, 14800, 2, 7, 0x526F, 17, 2000, 16800, 3182, 11000, {14800, -1500, 2981, 0}};
+static void set_up_c(void) { sink = (uint64_t)sb2_area_set_up(area, sizeof area, &figures); }
+static void set_up_s(void) { sink = (uint64_t)sb2_set_up(&state, &figures); }
+
+/* ---- the cases */
+
+struct entry {
+    char name[32];
+    void (*call[3])(void); /* p, c, s */
+    size_t size;
+    bool reading;
+    uint8_t command;
+};
+static struct entry entries[96];
+static size_t count;
+
+static struct entry *add(const char *name, void (*p)(void), void (*c)(void), void (*s)(void))
+{
+    struct entry *e = &entries[count++];
+    snprintf(e->name, sizeof e->name, "%s", name);
+    e->call[0] = p;
+    e->call[1] = c;
+    e->call[2] = s ? s : nothing;
+    return e;
+}
+
+static void add_sized(const char *name, size_t length, void (*p)(void), void (*c)(void))
+{
+    struct entry *e = add(name, p, c, NULL);
+    e->size = length;
+    snprintf(e->name, sizeof e->name, "%s-%zu", name, length);
+}
+
+static void add_command(const char *name, bool read, uint8_t command)
+{
+    struct entry *e = add(name, transact_p, transact_c, transact_s);
+    e->reading = read;
+    e->command = command;
+    snprintf(e->name, sizeof e->name, "%s-%02X", name, command);
+}
+
+static void make_entries(void)
+{
+    static const size_t lengths[] = {1, 2, 4, 5, 6, 8, 16, 37, 256, 4096};
+    add("nothing", nothing, nothing, nothing);
+    for (size_t i = 0; i < sizeof lengths / sizeof *lengths; i++)
+        add_sized("pec", lengths[i], pec_p, pec_c);
+    for (uint8_t command = 0; command <= 0x1C; command++)
+        add_command("read", true, command);
+    for (uint8_t command = 0x20; command <= 0x23; command++)
+        add_command("block-read", true, command);
+    for (uint8_t command = 0; command <= 4; command++)
+        add_command("write-pec", false, command);
+    add("sample-quiet", quiet_p, quiet_c, quiet_s);
+    add("sample-four-messages", loud_p, loud_c, loud_s);
+    add("set-up", set_up_p, set_up_c, set_up_s);
+    add_sized("write-key-names", 8, write_key_p, write_key_c);
+    add_sized("write-key-names", 32, write_key_p, write_key_c);
+    add("read-key", read_key_p, read_key_c, NULL);
+    add_sized("read-key-no-slash", 139, no_slash_p, no_slash_c);
+    add_sized("read-key-no-slash", 1024, no_slash_p, no_slash_c);
+    add_sized("unescape", 32, unescape_p, unescape_c);
+    add_sized("unescape", 64, unescape_p, unescape_c);
+    add("write-sheet", write_sheet_p, write_sheet_c, NULL);
+    add("is-sheet", is_sheet_p, is_sheet_c, NULL);
+    add("block", block_p, block_c, NULL);
+    add_sized("exchange", 6, exchange_p, exchange_c);
+    add_sized("exchange", 37, exchange_p, exchange_c);
+    add_sized("comparison", 6, bits_p, bits_c);
+    add_sized("comparison", 37, bits_p, bits_c);
+    add("open-capture-40-rows", open_p, open_c, NULL);
+    add("step-capture-40-rows", step_p, step_c, NULL);
+}
+
+/* The same start for each case and each program. */
+static void prepare(const struct entry *e)
+{
+    (void)sb2_area_set_up(area, sizeof area, &figures);
+    (void)sb2_set_up(&state, &figures);
+    uint8_t at_rate[] = {0x16, 0x04, 0x0C, 0xFE};
+    size_t length;
+    (void)sb2_area_transact(area, sizeof area, false, of(at_rate, 4), of(sheet, sheet_length), of(sheet, sheet_length), room, 34, &length);
+    (void)sb2_transact(&state, false, of(at_rate, 4), of(sheet, sheet_length), of(sheet, sheet_length), room, 34, &length);
+    for (uint32_t i = 1; i < 60; i++) { /* 60 currents kept */
+        struct sb2_sample sample = {14800, -1500, 2981, i};
+        (void)sb2_area_take_sample(area, sizeof area, &sample, room, 16, &length);
+        (void)sb2_take_sample(&state, &sample, room, 16, &length);
+    }
+    counter = 100;
+    size = e->size;
+    reading = e->reading;
+    message[1] = e->command;
+    message[2] = reading ? 0x17 : 0x10;
+    message[3] = 0;
+    message[4] = sb2_pec(of(message, 4));
+    message_length = reading ? 3 : 5;
+}
+
+static void make_data(void)
+{
+    for (size_t i = 0; i < sizeof text; i++)
+        text[i] = (uint8_t)(i * 73 + 41);
+    memset(letters, 0x41, sizeof letters);
+    struct sb2_body body = {true, of(text, 32)};
+    struct sb2_body bodies[4] = {body, body, body, body};
+    (void)sb2_sheet_write(bodies, sheet, sizeof sheet, &sheet_length);
+    (void)sb2_key_write(of(text, 32), of(text + 64, 32), 0x526F, 17, key, sizeof key, &key_length);
+    capture[0] = 40;
+    for (size_t i = 0; i < 40; i++)
+        capture[2 + 2 * i] = 37;
+    capture_length = sizeof capture;
+}
+
+/* ---- counting and stack */
+
+__attribute__((noinline)) void boundary(void)
+{
+    __asm__ volatile("");
+}
+
+static void run(int which, unsigned long repeat)
+{
+    for (size_t i = 0; i < count; i++) {
+        prepare(&entries[i]);
+        boundary();
+        for (unsigned long r = 0; r < repeat; r++)
+            entries[i].call[which]();
+        boundary();
+    }
+}
+
+enum { STACK = 1 << 18, PAINT = 0xC3 };
+static uint8_t stack[STACK] __attribute__((aligned(64)));
+static ucontext_t home, away;
+static void (*painted_call)(void);
+
+static void on_painted(void)
+{
+    painted_call();
+}
+
+/* The bytes of a painted stack that a call touches. */
+static size_t stack_of(void (*call)(void))
+{
+    memset(stack, PAINT, sizeof stack);
+    painted_call = call;
+    getcontext(&away);
+    away.uc_stack.ss_sp = stack;
+    away.uc_stack.ss_size = sizeof stack;
+    away.uc_link = &home;
+    makecontext(&away, on_painted, 0);
+    swapcontext(&home, &away);
+    size_t untouched = 0;
+    while (untouched < sizeof stack && stack[untouched] == PAINT)
+        untouched++;
+    return sizeof stack - untouched;
+}
+
+static void stacks(int which)
+{
+    size_t base = stack_of(nothing);
+    for (size_t i = 0; i < count; i++) {
+        prepare(&entries[i]);
+        printf("%s %zu\n", entries[i].name, stack_of(entries[i].call[which]) - base);
+    }
+}
+
+static int which_of(const char *word)
+{
+    return word[0] == 'p' ? 0 : word[0] == 'c' ? 1 : 2;
+}
+
+int main(int given, char **words)
+{
+    make_data();
+    make_entries();
+    if (given == 2 && strcmp(words[1], "names") == 0) {
+        for (size_t i = 0; i < count; i++)
+            puts(entries[i].name);
+    } else if (given == 3 && strcmp(words[1], "stack") == 0) {
+        stacks(which_of(words[2]));
+    } else if (given == 3) {
+        run(which_of(words[1]), strtoul(words[2], NULL, 10));
+    } else {
+        fprintf(stderr, "usage: entries names | WHICH REPEAT | stack WHICH\n");
+        return 2;
+    }
+    return 0;
+}

@@ -1,0 +1,623 @@
+/* Holds the C interface of the proved library to document 01's figures: every function, every answer number,
+ * areas of every size to twice the right one, rooms of every size to 200 with guard bytes around, and slices
+ * of no bytes. */
+#include "snatchblock.h"
+
+#include <stdio.h>
+#include <string.h>
+
+enum { REPLY_ROOM = 34, BROADCAST_ROOM = 16, KEY_ROOM = 139, SHEET_ROOM = 145 };
+enum { AREA_MOST = 2 * SNATCHBLOCK_AREA, ROOM_MOST = 200, GUARD = 24, MARK = 0xA5 };
+
+static unsigned passed, failed;
+
+static void check_at(int line, const char *what, unsigned long long got, unsigned long long wanted)
+{
+    if (got == wanted) {
+        passed++;
+        return;
+    }
+    failed++;
+    printf("line %d: %s: %llx, not %llx\n", line, what, got, wanted);
+}
+#define CHECK(got, wanted) check_at(__LINE__, #got, (unsigned long long)(got), (unsigned long long)(wanted))
+
+/* The answer number and what stands above it in a packed result. */
+#define PACKED(answer, rest) ((unsigned long long)(answer) | (unsigned long long)(rest) << 8)
+
+/* A slice of C bytes as the interface takes it: pointer, length. */
+#define BYTES(...) (const uint8_t[]){__VA_ARGS__}, sizeof((const uint8_t[]){__VA_ARGS__})
+#define TEXT(string) (const uint8_t *)(string), sizeof(string) - 1
+
+static const uint8_t nowhere[1] = {0};
+#define NO_BYTES nowhere, 0
+
+/* ---- rooms with guards */
+
+static uint8_t memory[GUARD + ROOM_MOST + GUARD];
+static uint8_t *const room = memory + GUARD;
+
+static void new_room(void)
+{
+    memset(memory, MARK, sizeof memory);
+}
+
+/* Whether the room begins with these bytes and all the rest is as it was. */
+static bool room_is(const uint8_t *bytes, size_t length)
+{
+    for (size_t i = 0; i < sizeof memory; i++) {
+        bool inside = i >= GUARD && i - GUARD < length;
+        if (memory[i] != (inside ? bytes[i - GUARD] : MARK))
+            return false;
+    }
+    return true;
+}
+
+/* ---- the pack */
+
+static uint8_t area_memory[GUARD + AREA_MOST + GUARD];
+static uint8_t *const area = area_memory + GUARD;
+
+struct figures {
+    uint16_t design, full, remaining, millivolts;
+};
+
+static uint32_t set_up_in(size_t length, struct figures f, int16_t current, uint32_t counter)
+{
+    return snatchblock_set_up(area, length, f.design, f.full, f.remaining, f.millivolts, 2, 7, 0x526F, 17, 2000, 16800,
+                              3182, 11000, 14800, current, 2981, counter);
+}
+
+static const struct figures usual = {4000, 4000, 2000, 14800};
+
+/* The pack of the worked examples, everything in order. */
+static void usual_pack(void)
+{
+    memset(area_memory, MARK, sizeof area_memory);
+    CHECK(set_up_in(SNATCHBLOCK_AREA, usual, 0, 0), 0);
+}
+
+static const uint8_t no_names[1] = {0};
+
+static uint32_t transact(bool read, const uint8_t *bytes, size_t length)
+{
+    new_room();
+    return snatchblock_transact(area, SNATCHBLOCK_AREA, no_names, 1, no_names, 1, read, bytes, length, room, REPLY_ROOM);
+}
+
+static uint32_t read_word(uint8_t command)
+{
+    CHECK(transact(true, BYTES(0x16, command, 0x17)), PACKED(0, 3));
+    return (uint32_t)(room[0] | room[1] << 8);
+}
+
+static void write_word(uint8_t command, uint16_t word)
+{
+    CHECK(transact(false, BYTES(0x16, command, (uint8_t)(word & 0xFF), (uint8_t)(word >> 8))), 0);
+    CHECK(room_is(NULL, 0), true);
+}
+
+static uint32_t sample(uint16_t millivolts, int16_t current, uint16_t temperature, uint32_t counter)
+{
+    new_room();
+    return snatchblock_sample(area, SNATCHBLOCK_AREA, millivolts, current, temperature, counter, room, BROADCAST_ROOM);
+}
+
+/* ---- set-up, the area, soundness */
+
+static void set_ups(void)
+{
+    static uint8_t before[sizeof area_memory];
+    for (size_t length = 0; length <= AREA_MOST; length++) {
+        memset(area_memory, MARK, sizeof area_memory);
+        memcpy(before, area_memory, sizeof before);
+        CHECK(set_up_in(length, usual, 0, 0), length == SNATCHBLOCK_AREA ? 0 : 1);
+        CHECK(snatchblock_sound(area, length), length == SNATCHBLOCK_AREA);
+        if (length == SNATCHBLOCK_AREA)
+            memcpy(before + GUARD, area, SNATCHBLOCK_AREA);
+        CHECK(memcmp(area_memory, before, sizeof before), 0);
+    }
+    const struct figures bad[] = {{0, 4000, 2000, 14800}, {4000, 0, 0, 14800}, {4000, 4000, 2000, 0}, {4000, 4000, 4001, 14800}};
+    for (size_t i = 0; i < sizeof bad / sizeof *bad; i++) {
+        memset(area_memory, MARK, sizeof area_memory);
+        memcpy(before, area_memory, sizeof before);
+        CHECK(set_up_in(SNATCHBLOCK_AREA, bad[i], 0, 0), 11);
+        CHECK(set_up_in(SNATCHBLOCK_AREA - 1, bad[i], 0, 0), 1);
+        CHECK(memcmp(area_memory, before, sizeof before), 0);
+    }
+    CHECK(set_up_in(SNATCHBLOCK_AREA, (struct figures){1, 1, 1, 1}, 0, 0), 0);
+    CHECK(set_up_in(SNATCHBLOCK_AREA, (struct figures){4000, 4000, 4000, 14800}, 0, 0), 0);
+}
+
+/* The area's content, place by place, as the header lays it out. */
+static void layout(void)
+{
+    usual_pack();
+    const uint8_t front[] = {0, 0xA0, 0x0F, 0xD0, 0x39, 2, 0, 0x6F, 0x52, 17, 0, 0xD0, 0x07, 0xA0, 0x41, 0x6E, 0x0C, 0xF8, 0x2A,
+                             0, 0, 0x90, 0x01, 10, 0, 0, 0, 0, 0, 0, 0xD0, 0x39, 0, 0, 0xA5, 0x0B, 0, 0, 0, 0};
+    CHECK(memcmp(area, front, sizeof front), 0);
+    for (size_t i = 40; i < 160; i++)
+        CHECK(area[i], 0);
+    /* 2,000 mAh are 7,200,000,000 mA·ms */
+    const uint8_t back[] = {1, 0x00, 0x48, 0x27, 0xAD, 1, 0, 0, 0, 0xA0, 0x0F, 7, 0, 0, 0, 0, 0, 0, 0x10, 0x27, 0, 0, 0, 0, 0, 0};
+    CHECK(sizeof back, SNATCHBLOCK_AREA - 160);
+    CHECK(memcmp(area + 160, back, sizeof back), 0);
+}
+
+static void put(size_t at, size_t bytes, uint64_t value)
+{
+    for (size_t i = 0; i < bytes; i++)
+        area[at + i] = (uint8_t)(value >> 8 * i);
+}
+
+/* A field of a sound area at a value that keeps it sound, and at one that doesn't. */
+static void border(size_t at, size_t bytes, uint64_t good, uint64_t bad)
+{
+    uint64_t before = 0;
+    for (size_t i = 0; i < bytes; i++)
+        before |= (uint64_t)area[at + i] << 8 * i;
+    put(at, bytes, good);
+    CHECK(snatchblock_sound(area, SNATCHBLOCK_AREA), true);
+    put(at, bytes, bad);
+    CHECK(snatchblock_sound(area, SNATCHBLOCK_AREA), false);
+    put(at, bytes, before);
+}
+
+static void soundness(void)
+{
+    memset(area_memory, 0, sizeof area_memory);
+    CHECK(snatchblock_sound(area, SNATCHBLOCK_AREA), false);
+    usual_pack();
+    border(0, 1, 7, 8);
+    border(1, 2, 1, 0);
+    border(3, 2, 1, 0);
+    border(27, 1, 0, 1); /* ALARM_MODE without a hold */
+    border(28, 1, 1, 2);
+    border(29, 1, 1, 2);
+    border(160, 1, 1, 0);
+    border(160, 1, 60, 61);
+    border(161, 8, 4000ull * 3600000, 4000ull * 3600000 + 1);
+    border(161, 8, 0, UINT64_MAX);
+    border(169, 2, 2000, 0);
+    border(173, 1, 1, 2);
+    border(174, 4, 0, 1); /* a hold without ALARM_MODE */
+    border(178, 4, 0, 10001);
+    border(182, 4, 29999, 30000);
+    write_word(0x03, 0x2000);
+    border(174, 4, 1, 0);
+    border(174, 4, 60000, 60001);
+    border(27, 1, 1, 255);
+    write_word(0x03, 0x4000);
+    border(182, 4, 0, 1);
+}
+
+/* ---- samples */
+
+static void sample_sizes(void)
+{
+    for (size_t length = 0; length <= AREA_MOST; length++) {
+        if (length == SNATCHBLOCK_AREA)
+            continue;
+        usual_pack();
+        static uint8_t before[sizeof area_memory];
+        memcpy(before, area_memory, sizeof before);
+        new_room();
+        CHECK(snatchblock_sample(area, length, 0, 0, 0, 30000, room, BROADCAST_ROOM), 1);
+        CHECK(snatchblock_sample(area, length, 0, 0, 0, 30000, room, 0), 1);
+        CHECK(room_is(NULL, 0) && memcmp(area_memory, before, sizeof before) == 0, true);
+    }
+    /* hot, charging, 30,000 ms on: four messages, which just fill the least room */
+    const uint8_t four[] = {0x10, 0x16, 0x8F, 0x50, 0x12, 0x16, 0x8F, 0x50, 0x12, 0x14, 0, 0, 0x12, 0x15, 0xA0, 0x41};
+    for (size_t length = 0; length <= ROOM_MOST; length++) {
+        usual_pack();
+        uint8_t before[SNATCHBLOCK_AREA];
+        memcpy(before, area, sizeof before);
+        new_room();
+        uint32_t result = snatchblock_sample(area, SNATCHBLOCK_AREA, 14800, 100, 3183, 30000, room, length);
+        CHECK(result, length < BROADCAST_ROOM ? 2 : PACKED(0, 16));
+        CHECK(room_is(four, length < BROADCAST_ROOM ? 0 : 16), true);
+        CHECK(memcmp(before, area, sizeof before) == 0, length < BROADCAST_ROOM);
+    }
+}
+
+static void samples(void)
+{
+    /* 100 of 4,000 mAh: bit 9 is set, its alarm goes at once, then each 10,000 ms */
+    memset(area_memory, MARK, sizeof area_memory);
+    CHECK(set_up_in(SNATCHBLOCK_AREA, (struct figures){4000, 4000, 100, 14800}, 0, 4294967290u), 0);
+    const uint8_t low[] = {0x10, 0x16, 0xCF, 0x02};
+    CHECK(sample(14800, 0, 2981, 4), PACKED(0, 4)); /* the counter wraps: 10 ms */
+    CHECK(room_is(low, 4), true);
+    CHECK(sample(14800, 0, 2981, 10003), 0);
+    CHECK(room_is(NULL, 0), true);
+    CHECK(sample(14800, 0, 2981, 10004), PACKED(0, 4));
+    /* 29,999 ms and 30,000 ms after set-up */
+    write_word(0x03, 0x2000);
+    CHECK(sample(14800, 0, 2981, 29993), 0);
+    const uint8_t charger[] = {0x12, 0x14, 0xD0, 0x07, 0x12, 0x15, 0xA0, 0x41};
+    CHECK(sample(14800, 0, 2981, 29994), PACKED(0, 8));
+    CHECK(room_is(charger, 8), true);
+    CHECK(read_word(0x03), 0x2000);
+    /* the hold of 60,000 ms began at 10,004 */
+    CHECK(sample(14800, 0, 2981, 70003), PACKED(0, 8));
+    CHECK(read_word(0x03), 0x2000);
+    CHECK(sample(14800, 0, 2981, 70004), PACKED(0, 4));
+    CHECK(read_word(0x03), 0);
+    /* worked example 12: the mean of -5 and 2 is -1 */
+    memset(area_memory, MARK, sizeof area_memory);
+    CHECK(set_up_in(SNATCHBLOCK_AREA, usual, -5, 0), 0);
+    CHECK(sample(14800, 2, 2981, 1000), 0);
+    CHECK(read_word(0x0B), 0xFFFF);
+    /* an unsound area answers 1 before a small room's 2 */
+    area[0] = 8;
+    new_room();
+    CHECK(snatchblock_sample(area, SNATCHBLOCK_AREA, 0, 0, 0, 0, room, 0), 1);
+    CHECK(room_is(NULL, 0), true);
+}
+
+/* ---- transactions */
+
+static void transact_sizes(void)
+{
+    const uint8_t reply[] = {0xD0, 0x39, 0x7E}; /* worked example 3 */
+    for (size_t length = 0; length <= AREA_MOST; length++) {
+        usual_pack();
+        static uint8_t before[sizeof area_memory];
+        memcpy(before, area_memory, sizeof before);
+        new_room();
+        uint32_t result = snatchblock_transact(area, length, no_names, 1, no_names, 1, true, BYTES(0x16, 0x09, 0x17), room, REPLY_ROOM);
+        CHECK(result, length == SNATCHBLOCK_AREA ? PACKED(0, 3) : 1);
+        CHECK(room_is(reply, length == SNATCHBLOCK_AREA ? 3 : 0), true);
+        CHECK(memcmp(area_memory, before, sizeof before), 0);
+    }
+    for (size_t length = 0; length <= ROOM_MOST; length++) {
+        usual_pack();
+        area[0] = 6;
+        new_room();
+        uint32_t result = snatchblock_transact(area, SNATCHBLOCK_AREA, no_names, 1, no_names, 1, true, BYTES(0x16, 0x09, 0x17), room, length);
+        CHECK(result, length < REPLY_ROOM ? 2 : PACKED(0, 3));
+        CHECK(room_is(reply, length < REPLY_ROOM ? 0 : 3), true);
+        CHECK(area[0], length < REPLY_ROOM ? 6 : 0);
+    }
+}
+
+/* A refused transaction: its number, the error code left, nothing else changed. */
+static void refused_at(int line, bool read, const uint8_t *bytes, size_t length, uint32_t answer, uint8_t code)
+{
+    uint8_t before[SNATCHBLOCK_AREA];
+    usual_pack();
+    area[0] = 1;
+    memcpy(before, area, sizeof before);
+    before[0] = code;
+    check_at(line, "answer", transact(read, bytes, length), answer);
+    check_at(line, "room", room_is(NULL, 0), true);
+    check_at(line, "area", (unsigned)memcmp(before, area, sizeof before), 0);
+}
+#define REFUSED(read, answer, code, ...) refused_at(__LINE__, read, BYTES(__VA_ARGS__), answer, code)
+
+static void refusals(void)
+{
+    refused_at(__LINE__, true, NO_BYTES, 3, 1);
+    refused_at(__LINE__, false, NO_BYTES, 3, 1);
+    REFUSED(true, 3, 1, 0x17, 0x09, 0x17);
+    REFUSED(true, 4, 6, 0x16);
+    REFUSED(true, 4, 6, 0x16, 0x09, 0x16);
+    REFUSED(true, 4, 6, 0x16, 0x09, 0x17, 0x00);
+    REFUSED(false, 4, 6, 0x16, 0x09, 0x17);
+    REFUSED(false, 4, 6, 0x16, 0x02, 0x0A, 0x00, 0x47, 0x00);
+    REFUSED(false, 5, 7, 0x16, 0x02, 0x0A, 0x00, 0x46);
+    REFUSED(true, 6, 2, 0x16, 0x24, 0x17);
+    REFUSED(true, 6, 2, 0x16, 0x1D, 0x17);
+    REFUSED(false, 6, 2, 0x16, 0xFF, 0x00, 0x00);
+    REFUSED(true, 7, 3, 0x16, 0x2F, 0x17);
+    REFUSED(true, 7, 3, 0x16, 0x3C, 0x17);
+    REFUSED(false, 7, 3, 0x16, 0x3F, 0x00, 0x00);
+    REFUSED(false, 8, 4, 0x16, 0x05, 0x00, 0x00);
+    REFUSED(false, 8, 4, 0x16, 0x20, 0x00, 0x00);
+    /* 9: a bad sheet, of either kind, though the name is in the good one; one of no bytes is bad */
+    usual_pack();
+    new_room();
+    const uint8_t named[] = {1, 0x20, 1, 5, 0, 0x42};
+    CHECK(snatchblock_transact(area, SNATCHBLOCK_AREA, named, sizeof named, NO_BYTES, true, BYTES(0x16, 0x20, 0x17), room, REPLY_ROOM), 9);
+    CHECK(snatchblock_transact(area, SNATCHBLOCK_AREA, NO_BYTES, named, sizeof named, true, BYTES(0x16, 0x20, 0x17), room, REPLY_ROOM), 9);
+    CHECK(room_is(NULL, 0), true);
+    CHECK(area[0], 7);
+}
+
+static void served(void)
+{
+    usual_pack();
+    CHECK(transact(false, BYTES(0x16, 0x02, 0x0A, 0x00, 0x47)), 0); /* worked example 4 */
+    CHECK(room_is(NULL, 0), true);
+    CHECK(read_word(0x0F), 2000);
+    CHECK(read_word(0x16), 0x00C0);
+    write_word(0x04, 0x8000);
+    CHECK(read_word(0x06), 3); /* worked example 7 */
+    write_word(0x04, 0);
+    CHECK(read_word(0x06), 65535); /* 8 */
+    write_word(0x04, 0xFFFF);
+    CHECK(read_word(0x06), 65534); /* 9 */
+    write_word(0x03, 0x8000);
+    CHECK(read_word(0x0F), 2960); /* 10 */
+    const uint8_t request[] = {0x16, 0x05, 0x17, 0xFF, 0xFF};
+    CHECK(transact(true, request, 3), PACKED(10, 3));
+    CHECK(room_is((const uint8_t[]){0xFF, 0xFF, snatchblock_pec(request, 5)}, 3), true);
+    CHECK(read_word(0x16), 0x00C5);
+    CHECK(read_word(0x16), 0x00C0);
+    /* each read command is served, and its exchange is right */
+    for (uint8_t command = 0; command <= 0x1C; command++) {
+        uint8_t exchange[6] = {0x16, command, 0x17};
+        if (command == 0x05)
+            continue;
+        CHECK(transact(true, exchange, 3), PACKED(0, 3));
+        memcpy(exchange + 3, room, 3);
+        CHECK(snatchblock_exchange_check(exchange, 6), PACKED(0, 1));
+    }
+    CHECK(read_word(0x1A), 0x0031);
+    CHECK(read_word(0x1B), 0x526F);
+    /* a block of the longest name just fills the least room: count, 32 bytes, PEC */
+    uint8_t sheet[37] = {1, 0x20, 32, 5, 0};
+    uint8_t exchange[37] = {0x16, 0x20, 0x17, 32};
+    for (uint8_t i = 0; i < 32; i++)
+        exchange[4 + i] = sheet[5 + i] = (uint8_t)(200 - i);
+    exchange[36] = snatchblock_pec(exchange, 36);
+    new_room();
+    CHECK(snatchblock_transact(area, SNATCHBLOCK_AREA, sheet, 37, no_names, 1, true, exchange, 3, room, REPLY_ROOM), PACKED(0, 34));
+    CHECK(room_is(exchange + 3, 34), true);
+    CHECK(transact(true, BYTES(0x16, 0x21, 0x17)), PACKED(0, 2));
+    CHECK(room[0], 0);
+}
+
+/* An area copied away and back goes on as if it had stayed. */
+static void winter(void)
+{
+    uint8_t kept[SNATCHBLOCK_AREA];
+    usual_pack();
+    write_word(0x01, 1234);
+    CHECK(sample(14000, -500, 2981, 3600000), PACKED(0, 8));
+    memcpy(kept, area, sizeof kept);
+    memset(area_memory, 0, sizeof area_memory);
+    CHECK(transact(true, BYTES(0x16, 0x09, 0x17)), 1);
+    memcpy(area, kept, sizeof kept);
+    CHECK(read_word(0x01), 1234);
+    CHECK(read_word(0x0F), 1500);
+    CHECK(read_word(0x09), 14000);
+}
+
+/* ---- check bytes */
+
+static void checks(void)
+{
+    CHECK(snatchblock_pec(NO_BYTES), 0x00);
+    CHECK(snatchblock_pec(BYTES(0x16, 0x80, 0x17, 0x4D, 0x00, 0x01, 0x00)), 0x98);
+    CHECK(snatchblock_pec(BYTES(0x16, 0x09, 0x17, 0xD0, 0x39)), 0x7E);
+    CHECK(snatchblock_pec(BYTES(0x16, 0x02, 0x0A, 0x00)), 0x47);
+    CHECK(snatchblock_pec(TEXT("123456789")), 0xF4);
+    uint8_t bytes[64] = {0};
+    for (size_t length = 0; length <= 40; length++) {
+        bool in_range = length >= 2 && length <= 37;
+        memset(bytes, 0, sizeof bytes);
+        CHECK(snatchblock_exchange_check(bytes, length), in_range ? PACKED(0, 1) : 15);
+        if (length > 0)
+            bytes[length - 1] = 1;
+        CHECK(snatchblock_exchange_check(bytes, length), in_range ? PACKED(0, 0) : 15);
+        CHECK(snatchblock_bit_comparison(bytes, length, (const uint8_t[64]){0}, length),
+              length > 37 ? 15 : PACKED(0, length > 0));
+        CHECK(snatchblock_bit_comparison(bytes, length, bytes, length + 1), 15);
+    }
+    CHECK(snatchblock_bit_comparison(NO_BYTES, NO_BYTES), 0);
+    CHECK(snatchblock_bit_comparison(BYTES(0xFF, 0x0F), BYTES(0x00, 0x1E)), PACKED(0, 10));
+    memset(bytes, 0xFF, sizeof bytes);
+    CHECK(snatchblock_bit_comparison(bytes, 37, (const uint8_t[64]){0}, 37), PACKED(0, 296));
+}
+
+/* ---- keys */
+
+static const uint8_t slashes[33] = {0x2F, 0x2F, 0x2F, 0x2F, 0x2F, 0x2F, 0x2F, 0x2F, 0x2F, 0x2F, 0x2F, 0x2F, 0x2F, 0x2F, 0x2F, 0x2F, 0x2F,
+                                    0x2F, 0x2F, 0x2F, 0x2F, 0x2F, 0x2F, 0x2F, 0x2F, 0x2F, 0x2F, 0x2F, 0x2F, 0x2F, 0x2F, 0x2F, 0x2F};
+
+static void key_writing(void)
+{
+    for (size_t length = 0; length <= ROOM_MOST; length++) {
+        new_room();
+        uint32_t result = snatchblock_write_key(TEXT("A/B"), TEXT("P7"), 0x526F, 17, room, length);
+        CHECK(result, length < KEY_ROOM ? 12 : PACKED(0, 17));
+        CHECK(room_is((const uint8_t *)"A\\/B/P7/526f/0011", length < KEY_ROOM ? 0 : 17), true); /* worked example 6 */
+    }
+    new_room();
+    CHECK(snatchblock_write_key(slashes, 33, NO_BYTES, 0, 0, room, KEY_ROOM), 12);
+    CHECK(snatchblock_write_key(NO_BYTES, slashes, 33, 0, 0, room, KEY_ROOM), 12);
+    CHECK(room_is(NULL, 0), true);
+    CHECK(snatchblock_write_key(NO_BYTES, NO_BYTES, 0, 0xABCD, room, KEY_ROOM), PACKED(0, 11));
+    CHECK(room_is((const uint8_t *)"//0000/abcd", 11), true);
+    /* the longest key fills its room to the last byte */
+    new_room();
+    CHECK(snatchblock_write_key(slashes, 32, slashes, 32, 1, 2, room, KEY_ROOM), PACKED(0, 139));
+    CHECK(room[138] == '2' && room[139] == MARK && room[-1] == MARK, true);
+    CHECK(snatchblock_read_key(room, 139), 64ull << 8 | 64ull << 16 | 1ull << 24 | 2ull << 40);
+    CHECK(snatchblock_read_key(room, 138), 13);
+}
+
+static void key_reading(void)
+{
+    CHECK(snatchblock_read_key(TEXT("A\\/B/P7/526f/0011")), 4ull << 8 | 2ull << 16 | 0x526Full << 24 | 17ull << 40);
+    CHECK(snatchblock_read_key(TEXT("//0000/ffff")), 0xFFFFull << 40);
+    CHECK(snatchblock_read_key(NO_BYTES), 13);
+    CHECK(snatchblock_read_key(TEXT("A\\xB/P7/526f/0011")), 13);
+    CHECK(snatchblock_read_key(TEXT("A/B/P7/526f/0011")), 13);
+    CHECK(snatchblock_read_key(TEXT("A/P7/526F/0011")), 13);
+    CHECK(snatchblock_read_key(TEXT("A/P7/526f/0011 ")), 13);
+    CHECK(snatchblock_read_key(TEXT("A/P7/526f/001")), 13);
+    CHECK(snatchblock_read_key(TEXT("A/P7/526f")), 13);
+    CHECK(snatchblock_read_key(TEXT("A\\")), 13);
+    CHECK(snatchblock_read_key(TEXT("aaaaaaaabbbbbbbbccccccccdddddddd/P7/526f/0011")), 32ull << 8 | 2ull << 16 | 0x526Full << 24 | 17ull << 40);
+    CHECK(snatchblock_read_key(TEXT("aaaaaaaabbbbbbbbccccccccdddddddde/P7/526f/0011")), 13);
+}
+
+static void unescaping(void)
+{
+    for (size_t length = 0; length <= ROOM_MOST; length++) {
+        new_room();
+        CHECK(snatchblock_unescape(TEXT("A\\/\\\\"), room, length), length < 3 ? 12 : PACKED(0, 3));
+        CHECK(room_is((const uint8_t *)"A/\\", length < 3 ? 0 : 3), true);
+    }
+    new_room();
+    CHECK(snatchblock_unescape(NO_BYTES, room, 0), 0);
+    CHECK(snatchblock_unescape(TEXT("A/B"), room, 8), 13);
+    CHECK(snatchblock_unescape(TEXT("A\\B"), room, 8), 13);
+    CHECK(snatchblock_unescape(TEXT("A\\"), room, 8), 13);
+    CHECK(snatchblock_unescape(TEXT("AB\\"), room, 0), 13);
+    CHECK(room_is(NULL, 0), true);
+}
+
+/* Bytes of every length get an answer: megabytes without a slash need no deep stack. */
+static void long_bytes_of(uint8_t byte, size_t length)
+{
+    static uint8_t bytes[1 << 24];
+    memset(bytes, byte, length);
+    new_room();
+    uint32_t plain = snatchblock_unescape(bytes, length, room, ROOM_MOST);
+    CHECK(plain == 12 || plain == 13, true);
+    CHECK(snatchblock_read_key(bytes, length), 13);
+    CHECK(snatchblock_is_sheet(bytes, length), false);
+    CHECK(snatchblock_open_capture(bytes, length), 14);
+    CHECK(snatchblock_exchange_check(bytes, length), 15);
+    CHECK(snatchblock_sound(bytes, length), false);
+    CHECK(snatchblock_write_key(bytes, length, bytes, length, 0, 0, room, KEY_ROOM), 12);
+    CHECK(room_is(NULL, 0), true);
+}
+
+static void long_bytes(void)
+{
+    static const uint8_t all[] = {0x00, 0x2F, 0x5C, 0x41};
+    static const size_t lengths[] = {1 << 10, 1 << 16, 1 << 20, (1 << 24) - 2, (1 << 24) - 1, 1 << 24};
+    for (size_t i = 0; i < sizeof all; i++)
+        for (size_t j = 0; j < sizeof lengths / sizeof *lengths; j++)
+            long_bytes_of(all[i], lengths[j]);
+}
+
+/* ---- sheets */
+
+static void sheet_writing(void)
+{
+    const uint8_t two[] = {2, 0x20, 2, 9, 0, 0x22, 1, 11, 0, 'H', 'i', '!'};
+    for (size_t length = 0; length <= ROOM_MOST; length++) {
+        new_room();
+        uint32_t result = snatchblock_write_sheet(room, length, true, TEXT("Hi"), false, TEXT("not given"), true, TEXT("!"), false, NO_BYTES);
+        CHECK(result, length < SHEET_ROOM ? 12 : PACKED(0, 12));
+        CHECK(room_is(two, length < SHEET_ROOM ? 0 : 12), true);
+    }
+    CHECK(snatchblock_is_sheet(two, 12), true);
+    for (size_t length = 0; length < 12; length++)
+        CHECK(snatchblock_is_sheet(two, length), false);
+    new_room();
+    CHECK(snatchblock_write_sheet(room, SHEET_ROOM, true, slashes, 33, false, NO_BYTES, false, NO_BYTES, false, NO_BYTES), 12);
+    CHECK(snatchblock_write_sheet(room, SHEET_ROOM, false, NO_BYTES, false, NO_BYTES, false, NO_BYTES, true, slashes, 33), 12);
+    CHECK(room_is(NULL, 0), true);
+    CHECK(snatchblock_write_sheet(room, SHEET_ROOM, false, NO_BYTES, false, NO_BYTES, false, NO_BYTES, false, NO_BYTES), PACKED(0, 1));
+    CHECK(room_is(no_names, 1), true);
+    /* four names of 32 bytes fill the least room to the last byte */
+    new_room();
+    CHECK(snatchblock_write_sheet(room, SHEET_ROOM, true, slashes, 32, true, slashes, 32, true, slashes, 32, true, slashes, 32), PACKED(0, 145));
+    CHECK(room[144] == 0x2F && room[145] == MARK && room[-1] == MARK, true);
+    CHECK(snatchblock_is_sheet(room, 145), true);
+}
+
+static void blocks(void)
+{
+    const unsigned long long of_factory = 1ull << 32;
+    const uint8_t service[] = {1, 0x21, 3, 5, 0, 'n', 'e', 'w'};
+    const uint8_t factory[] = {2, 0x20, 2, 9, 0, 0x21, 3, 11, 0, 'm', 'k', 'o', 'l', 'd'};
+    CHECK(snatchblock_block(service, 8, factory, 14, 0x20), 2ull << 8 | 9ull << 16 | of_factory);
+    CHECK(snatchblock_block(service, 8, factory, 14, 0x21), 3ull << 8 | 5ull << 16);
+    CHECK(snatchblock_block(service, 8, factory, 14, 0x22), of_factory);
+    CHECK(snatchblock_block(service, 8, factory, 14, 0x05), of_factory);
+    CHECK(snatchblock_block(service, 7, factory, 14, 0x20), 9 | of_factory);
+    CHECK(snatchblock_block(service, 8, factory, 13, 0x21), 9 | of_factory);
+    CHECK(snatchblock_block(NO_BYTES, NO_BYTES, 0x20), 9 | of_factory);
+}
+
+static void bad_sheets(void)
+{
+    CHECK(snatchblock_is_sheet(NO_BYTES), false);
+    CHECK(snatchblock_is_sheet(BYTES(0)), true);
+    CHECK(snatchblock_is_sheet(BYTES(0, 0)), false);
+    CHECK(snatchblock_is_sheet(BYTES(5)), false);
+    CHECK(snatchblock_is_sheet(BYTES(1, 0x23, 0, 5, 0)), true);
+    CHECK(snatchblock_is_sheet(BYTES(1, 0x24, 0, 5, 0)), false);
+    CHECK(snatchblock_is_sheet(BYTES(1, 0x1F, 0, 5, 0)), false);
+    CHECK(snatchblock_is_sheet(BYTES(1, 0x20, 0, 5, 1)), false);
+    CHECK(snatchblock_is_sheet(BYTES(1, 0x20, 1, 4, 0, 7)), false);
+    CHECK(snatchblock_is_sheet(BYTES(2, 0x20, 0, 9, 0, 0x21, 0, 9, 0)), true);
+    CHECK(snatchblock_is_sheet(BYTES(2, 0x21, 0, 9, 0, 0x20, 0, 9, 0)), false);
+    CHECK(snatchblock_is_sheet(BYTES(2, 0x21, 0, 9, 0, 0x21, 0, 9, 0)), false);
+    uint8_t long_body[38] = {1, 0x20, 33, 5, 0};
+    CHECK(snatchblock_is_sheet(long_body, 38), false);
+    long_body[2] = 32;
+    CHECK(snatchblock_is_sheet(long_body, 37), true);
+}
+
+/* ---- captures */
+
+static void captures(void)
+{
+    const uint8_t capture[] = {3, 0, 5, 1, 3, 0, 5, 0x16, 0x02, 0x0A, 0, 0x47, 0x16, 0x09, 0x17, 0x16, 0x02, 0x0A, 0, 0x46};
+    const size_t length = sizeof capture;
+    CHECK(snatchblock_open_capture(capture, length), 3ul << 8 | 7ul << 16);
+    CHECK(snatchblock_step_capture(capture, length, 0, 7), 1ull << 8 | 5ull << 16 | 12ull << 32);
+    CHECK(snatchblock_step_capture(capture, length, 1, 12), 1ull << 8 | 1ull << 9 | 3ull << 16 | 15ull << 32);
+    CHECK(snatchblock_step_capture(capture, length, 2, 15), 1ull << 8 | 5ull << 16 | 20ull << 32);
+    CHECK(snatchblock_step_capture(capture, length, 3, 20), 0);
+    CHECK(snatchblock_step_capture(capture, length, SIZE_MAX, SIZE_MAX), 0);
+    CHECK(snatchblock_step_capture(capture, length, 0, SIZE_MAX), 0);
+    CHECK(snatchblock_step_capture(capture, length, 0, 16), 0);
+    for (size_t cut = 0; cut < length; cut++) {
+        CHECK(snatchblock_open_capture(capture, cut), 14);
+        CHECK(snatchblock_step_capture(capture, cut, 0, 7), 14);
+    }
+    CHECK(snatchblock_open_capture(BYTES(0)), 1ul << 16);
+    CHECK(snatchblock_step_capture(BYTES(0), 0, 1), 0);
+    CHECK(snatchblock_open_capture(BYTES(0, 0)), 14);
+    CHECK(snatchblock_open_capture(BYTES(1, 2, 0)), 14);
+    CHECK(snatchblock_open_capture(BYTES(1, 1, 0)), 1ul << 8 | 3ul << 16);
+    uint8_t long_row[41] = {1, 0, 37};
+    CHECK(snatchblock_open_capture(long_row, 40), 1ul << 8 | 3ul << 16);
+    long_row[2] = 38;
+    CHECK(snatchblock_open_capture(long_row, 41), 14);
+    /* the longest capture: 255 rows of 37 bytes */
+    static uint8_t longest[1 + 255 * 39] = {255};
+    for (size_t i = 0; i < 255; i++)
+        longest[2 + 2 * i] = 37;
+    CHECK(snatchblock_open_capture(longest, sizeof longest), 255ul << 8 | 511ul << 16);
+    CHECK(snatchblock_step_capture(longest, sizeof longest, 254, sizeof longest - 37), 1ull << 8 | 37ull << 16 | (unsigned long long)sizeof longest << 32);
+}
+
+int main(void)
+{
+    CHECK(SNATCHBLOCK_REPLY_ROOM, REPLY_ROOM);
+    CHECK(SNATCHBLOCK_BROADCAST_ROOM, BROADCAST_ROOM);
+    CHECK(SNATCHBLOCK_KEY_ROOM, KEY_ROOM);
+    CHECK(SNATCHBLOCK_SHEET_ROOM, SHEET_ROOM);
+    CHECK(SNATCHBLOCK_ANSWER(PACKED(10, 3)), 10);
+    CHECK(SNATCHBLOCK_LENGTH(PACKED(10, 3)), 3);
+    set_ups();
+    layout();
+    soundness();
+    sample_sizes();
+    samples();
+    transact_sizes();
+    refusals();
+    served();
+    winter();
+    checks();
+    key_writing();
+    key_reading();
+    unescaping();
+    long_bytes();
+    sheet_writing();
+    blocks();
+    bad_sheets();
+    captures();
+    printf("c: %u checks passed, %u failed\n", passed, failed);
+    return failed > 0;
+}

@@ -1,0 +1,998 @@
+/* Compares the proved static library with the second program on seeded random work:
+ *   compare [SEED [CALLS]]
+ * Both get the same bytes, each in memory of its own. Compared are the packed results, and the areas and
+ * rooms whole, with guard bytes on both sides. Bytes that are lent for reading end at a page that can't be
+ * read. Status 0 only if nothing differs and, from LEAST calls on, every class came up. */
+#define _DEFAULT_SOURCE
+#include "snatchblock.h"
+#include "../../second/snatchblock2.h"
+
+#include <signal.h>
+#include <stdio.h>
+#include <stdlib.h>
+#include <string.h>
+#include <sys/mman.h>
+#include <unistd.h>
+
+enum { LEAST = 1000000, USUAL = 3000000, GUARD = 16, AREA_MOST = 372, ROOM_MOST = 200, PAGE = 4096, LENT_PAGES = 4 };
+
+static uint64_t seed, calls, wanted_calls;
+
+/* ---- random numbers: xorshift64* */
+
+static uint64_t random_state;
+
+static uint64_t draw(void)
+{
+    random_state ^= random_state >> 12;
+    random_state ^= random_state << 25;
+    random_state ^= random_state >> 27;
+    return random_state * 0x2545F4914F6CDD1Du;
+}
+
+static uint32_t below(uint32_t limit)
+{
+    return (uint32_t)((draw() >> 32) * limit >> 32);
+}
+
+static bool one_in(uint32_t n)
+{
+    return below(n) == 0;
+}
+
+static uint16_t some_word(void)
+{
+    static const uint16_t edges[] = {0, 1, 2, 10, 100, 0x7FFE, 0x7FFF, 0x8000, 0x8001, 0xFFFE, 0xFFFF};
+    switch (below(4)) {
+    case 0: return edges[below(sizeof edges / sizeof *edges)];
+    case 1: return (uint16_t)below(200);
+    case 2: return (uint16_t)below(20000);
+    default: return (uint16_t)draw();
+    }
+}
+
+static int16_t some_current(void)
+{
+    int32_t word = some_word();
+    return (int16_t)(word < 0x8000 ? word : word - 0x10000);
+}
+
+static void fill(uint8_t *at, size_t length)
+{
+    for (size_t i = 0; i < length; i++)
+        at[i] = (uint8_t)(draw() >> 56);
+}
+
+/* ---- lent memory */
+
+/* Bytes lent for reading: they end where a page begins that can't be read. */
+struct lent {
+    uint8_t *end;
+    uint8_t copy[LENT_PAGES * PAGE];
+    struct sb2_bytes bytes;
+};
+enum { SLICES = 4 };
+static struct lent lent[SLICES];
+
+static void make_lent(void)
+{
+    for (int i = 0; i < SLICES; i++) {
+        uint8_t *at = mmap(NULL, (LENT_PAGES + 1) * PAGE, PROT_READ | PROT_WRITE, MAP_PRIVATE | MAP_ANONYMOUS, -1, 0);
+        if (at == MAP_FAILED || mprotect(at + LENT_PAGES * PAGE, PAGE, PROT_NONE) != 0) {
+            perror("compare");
+            exit(2);
+        }
+        lent[i].end = at + LENT_PAGES * PAGE;
+    }
+}
+
+static struct sb2_bytes lend(int slot, const uint8_t *at, size_t length)
+{
+    struct lent *l = &lent[slot];
+    memcpy(l->end - length, at, length);
+    memcpy(l->copy, at, length);
+    l->bytes = (struct sb2_bytes){l->end - length, length};
+    return l->bytes;
+}
+
+/* Lent for writing, once for each program, with guard bytes around. */
+struct both {
+    uint8_t proved[2 * GUARD + AREA_MOST];
+    uint8_t second[2 * GUARD + AREA_MOST];
+    uint8_t before[2 * GUARD + AREA_MOST];
+    size_t length;
+    uint8_t *p;
+    uint8_t *s;
+};
+static struct both area, room;
+
+static void lend_both(struct both *b, size_t length)
+{
+    size_t shift = below(8);
+    b->length = length;
+    b->p = b->proved + GUARD - shift;
+    b->s = b->second + GUARD - shift;
+    memcpy(b->before, b->second, sizeof b->before);
+}
+
+static void lend_room(size_t length)
+{
+    memset(room.second, (int)below(256), sizeof room.second);
+    memcpy(room.proved, room.second, sizeof room.second);
+    lend_both(&room, length);
+}
+
+/* An area with the given content; `length` bytes of it are lent. */
+static void lend_area(const uint8_t *content, size_t length)
+{
+    memset(area.second, (int)below(256), sizeof area.second);
+    lend_both(&area, length);
+    memcpy(area.s, content, length);
+    memcpy(area.proved, area.second, sizeof area.second);
+    memcpy(area.before, area.second, sizeof area.before);
+}
+
+/* ---- the call under way, for a report */
+
+static struct {
+    const char *entry;
+    size_t slices;
+    bool with_area, with_room;
+    size_t numbers;
+    uint64_t number[20];
+} call;
+
+static _Noreturn void end_run(void);
+
+/* Begins a call, or ends the run after the last of the calls wanted. */
+static void begin(const char *entry, size_t slices, bool with_area, bool with_room)
+{
+    if (calls == wanted_calls)
+        end_run();
+    call.entry = entry;
+    call.slices = slices;
+    call.with_area = with_area;
+    call.with_room = with_room;
+    call.numbers = 0;
+    calls++;
+}
+
+static void note(uint64_t number)
+{
+    call.number[call.numbers++] = number;
+}
+
+static void show(const char *name, const uint8_t *at, size_t length)
+{
+    printf("  %-14s %5zu: ", name, length);
+    for (size_t i = 0; i < length; i++)
+        printf("%02x", at[i]);
+    printf("\n");
+}
+
+static void report(void)
+{
+    printf("seed %llu: the first %llu calls show it, no shorter prefix does (compare %llu %llu)\n",
+           (unsigned long long)seed, (unsigned long long)calls, (unsigned long long)seed, (unsigned long long)calls);
+    printf("  the last call alone shows it too: %s, numbers", call.entry);
+    for (size_t i = 0; i < call.numbers; i++)
+        printf(" %llu", (unsigned long long)call.number[i]);
+    printf("\n");
+    for (size_t i = 0; i < call.slices; i++)
+        show("slice", lent[i].copy, lent[i].bytes.length);
+    if (call.with_area) {
+        show("area before", area.before + (area.s - area.second), area.length);
+        show("area, proved", area.p, area.length);
+        show("area, second", area.s, area.length);
+    }
+    if (call.with_room) {
+        show("room, proved", room.p, room.length);
+        show("room, second", room.s, room.length);
+    }
+}
+
+static void stopped(int number)
+{
+    printf("DIFFERENCE: signal %d in %s\n", number, call.entry);
+    report();
+    fflush(stdout);
+    _exit(1);
+}
+
+/* Compares all that a call gives and leaves. */
+static void compare(uint64_t proved, uint64_t second)
+{
+    const char *what = NULL;
+    if (proved != second)
+        what = "result";
+    else if (call.with_area && memcmp(area.proved, area.second, sizeof area.second) != 0)
+        what = "area";
+    else if (call.with_room && memcmp(room.proved, room.second, sizeof room.second) != 0)
+        what = "room";
+    for (size_t i = 0; i < call.slices; i++)
+        if (memcmp(lent[i].bytes.at, lent[i].copy, lent[i].bytes.length) != 0)
+            what = "bytes lent for reading";
+    if (what == NULL)
+        return;
+    printf("DIFFERENCE: %s of %s: proved %llx, second %llx\n", what, call.entry, (unsigned long long)proved,
+           (unsigned long long)second);
+    report();
+    exit(1);
+}
+
+/* ---- classes */
+
+enum { ANSWERS = 16 };
+enum entry {
+    SET_UP, SOUND, SAMPLE, TRANSACT, PEC, EXCHANGE, BITS, WRITE_KEY, READ_KEY, UNESCAPE, WRITE_SHEET, IS_SHEET, BLOCK,
+    OPEN, STEP, ENTRIES
+};
+static const struct {
+    const char *name;
+    uint32_t answers; /* a bit for each number that the entry can give; 0 and 1 are false and true for a test */
+} entries[ENTRIES] = {
+    [SET_UP] = {"set_up", 1u << 0 | 1u << 1 | 1u << 11},
+    [SOUND] = {"sound (0 false, 1 true)", 3},
+    [SAMPLE] = {"sample", 7},
+    [TRANSACT] = {"transact", 0x7FF},
+    [PEC] = {"pec", 1},
+    [EXCHANGE] = {"exchange_check", 1u << 0 | 1u << 15},
+    [BITS] = {"bit_comparison", 1u << 0 | 1u << 15},
+    [WRITE_KEY] = {"write_key", 1u << 0 | 1u << 12},
+    [READ_KEY] = {"read_key", 1u << 0 | 1u << 13},
+    [UNESCAPE] = {"unescape", 1u << 0 | 1u << 12 | 1u << 13},
+    [WRITE_SHEET] = {"write_sheet", 1u << 0 | 1u << 12},
+    [IS_SHEET] = {"is_sheet (0 false, 1 true)", 3},
+    [BLOCK] = {"block", 1u << 0 | 1u << 9},
+    [OPEN] = {"open_capture", 1u << 0 | 1u << 14},
+    [STEP] = {"step_capture", 1u << 0 | 1u << 14},
+};
+static uint64_t came[ENTRIES][ANSWERS];
+
+/* Classes beside the answers. */
+enum other {
+    READ_SERVED, WRITE_SERVED = READ_SERVED + 64, MESSAGES_0 = WRITE_SERVED + 5, MESSAGES_1, MESSAGES_2, MESSAGES_3,
+    MESSAGES_4, ALARM_BIT, COUNTER_WRAPPED = ALARM_BIT + 16, HOLD_RAN_OUT, EXCHANGE_RIGHT, EXCHANGE_WRONG,
+    BLOCK_SERVICE, BLOCK_FACTORY, BLOCK_NEITHER, STEP_ROW, STEP_END, OTHERS
+};
+static uint64_t other[OTHERS];
+
+static void came_up(enum entry entry, uint64_t result)
+{
+    came[entry][result & 15]++;
+}
+
+/* ---- what is played */
+
+static uint8_t state_area[AREA_MOST]; /* the pack's area between calls */
+static uint8_t service[145], factory[145];
+static size_t service_length, factory_length;
+
+static struct sb2_bytes bytes_of(const uint8_t *at, size_t length)
+{
+    return (struct sb2_bytes){at, length};
+}
+
+static size_t area_size(void)
+{
+    return one_in(40) ? below(AREA_MOST + 1) : SNATCHBLOCK_AREA;
+}
+
+static size_t room_size(size_t least)
+{
+    switch (below(20)) {
+    case 0: return least - 1;
+    case 1: return below(ROOM_MOST + 1);
+    case 2: return below((uint32_t)least);
+    case 3: return least + below(8);
+    default: return least;
+    }
+}
+
+/* Keeps the area that both left. */
+static void keep_area(void)
+{
+    if (area.length == SNATCHBLOCK_AREA)
+        memcpy(state_area, area.s, SNATCHBLOCK_AREA);
+}
+
+static void play_set_up(bool likely)
+{
+    struct sb2_set_up in = {
+        .design_capacity = some_word(), .full_capacity = some_word(), .remaining_capacity = some_word(),
+        .design_voltage = some_word(), .max_error = some_word(), .cycle_count = some_word(),
+        .manufacture_date = some_word(), .serial_number = some_word(), .charging_current = some_word(),
+        .charging_voltage = some_word(), .temperature_limit = some_word(), .discharge_limit = some_word(),
+        .first = {some_word(), some_current(), some_word(), (uint32_t)draw()}};
+    if (likely) {
+        in.design_capacity |= 1;
+        in.full_capacity |= 1;
+        in.design_voltage = (uint16_t)(1 + below(one_in(2) ? 65535 : 20000));
+        in.remaining_capacity = one_in(4) ? 0 : (uint16_t)below(in.full_capacity + 1u);
+    }
+    if (one_in(4))
+        in.first.counter = 0xFFFFFFFFu - below(100000);
+    size_t length = likely ? SNATCHBLOCK_AREA : area_size();
+    fill(state_area, length);
+    lend_area(state_area, length);
+    begin("set_up", 0, true, false);
+    note(in.design_capacity), note(in.full_capacity), note(in.remaining_capacity), note(in.design_voltage);
+    note(in.max_error), note(in.cycle_count), note(in.manufacture_date), note(in.serial_number);
+    note(in.charging_current), note(in.charging_voltage), note(in.temperature_limit), note(in.discharge_limit);
+    note(in.first.voltage), note((uint16_t)in.first.current), note(in.first.temperature), note(in.first.counter);
+    uint32_t proved = snatchblock_set_up(area.p, length, in.design_capacity, in.full_capacity, in.remaining_capacity,
+                                         in.design_voltage, in.max_error, in.cycle_count, in.manufacture_date,
+                                         in.serial_number, in.charging_current, in.charging_voltage,
+                                         in.temperature_limit, in.discharge_limit, in.first.voltage, in.first.current,
+                                         in.first.temperature, in.first.counter);
+    uint32_t second = (uint32_t)sb2_area_set_up(area.s, length, &in);
+    compare(proved, second);
+    came_up(SET_UP, second);
+    keep_area();
+}
+
+static void play_sound(void)
+{
+    size_t length = area_size();
+    lend_area(state_area, length);
+    begin("sound", 0, true, false);
+    bool proved = snatchblock_sound(area.p, length);
+    bool second = sb2_area_sound(bytes_of(area.s, length));
+    compare(proved, second);
+    came_up(SOUND, second);
+}
+
+static uint32_t some_elapsed(void)
+{
+    static const uint32_t edges[] = {0, 1, 1000, 9999, 10000, 10001, 29999, 30000, 30001, 59999, 60000, 60001};
+    switch (below(8)) {
+    case 0: return edges[below(sizeof edges / sizeof *edges)];
+    case 1: return (uint32_t)draw();
+    case 2: return below(100000);
+    case 3: return below(20) * 1000;
+    default: return 1000;
+    }
+}
+
+/* Which messages a served sample sent. */
+static void note_messages(size_t length, uint32_t before, uint32_t after, bool held)
+{
+    other[MESSAGES_0 + length / 4]++;
+    if (after < before)
+        other[COUNTER_WRAPPED]++;
+    if (held && area.s[27] == 0)
+        other[HOLD_RAN_OUT]++;
+    if (length >= 4 && room.s[1] == 0x16)
+        for (unsigned bit = 0; bit < 16; bit++)
+            if ((room.s[2] | room.s[3] << 8) & 1 << bit)
+                other[ALARM_BIT + bit]++;
+}
+
+static void play_sample(bool whole)
+{
+    struct sb2_state state;
+    struct sb2_sample sample = {some_word(), some_current(), some_word(), 0};
+    uint32_t before = 0;
+    bool held = state_area[27] == 1;
+    if (sb2_area_load(bytes_of(state_area, SNATCHBLOCK_AREA), &state)) {
+        before = state.latest.counter;
+        if (one_in(2)) { /* near the limits of this pack */
+            sample.temperature = (uint16_t)(state.settings.temperature_limit + below(3) - 1);
+            sample.voltage = (uint16_t)(state.settings.discharge_limit + below(3) - 1);
+        }
+    }
+    sample.counter = before + some_elapsed();
+    size_t length = whole ? SNATCHBLOCK_AREA : area_size();
+    lend_area(state_area, length);
+    lend_room(room_size(SB2_BROADCAST_ROOM));
+    begin("sample", 0, true, true);
+    note(sample.voltage), note((uint16_t)sample.current), note(sample.temperature), note(sample.counter);
+    size_t sent;
+    uint32_t proved = snatchblock_sample(area.p, length, sample.voltage, sample.current, sample.temperature,
+                                         sample.counter, room.p, room.length);
+    int answer = sb2_area_take_sample(area.s, length, &sample, room.s, room.length, &sent);
+    compare(proved, (uint32_t)answer | (uint32_t)sent << 8);
+    came_up(SAMPLE, (uint32_t)answer);
+    if (answer == SB2_SERVED)
+        note_messages(sent, before, sample.counter, held);
+    keep_area();
+}
+
+static uint8_t some_command(void)
+{
+    switch (below(16)) {
+    case 0: return (uint8_t)draw();
+    case 1: return (uint8_t)below(64);
+    case 2: return (uint8_t)(0x3C + below(4));
+    case 3: case 4: return (uint8_t)(0x20 + below(5));
+    case 5: return 0x03;
+    default: return (uint8_t)below(0x1D);
+    }
+}
+
+/* A message with its mark, right or damaged; gives its length. */
+static size_t some_message(uint8_t at[64], bool *read)
+{
+    size_t length = 3;
+    at[0] = 0x16;
+    at[1] = some_command();
+    at[2] = 0x17;
+    *read = true;
+    if (one_in(2)) {
+        uint16_t word = some_word();
+        if (one_in(4)) {
+            at[1] = 0x03;
+            word = (uint16_t)(below(8) << 13);
+        } else if (!one_in(8)) {
+            at[1] = (uint8_t)below(5);
+        }
+        at[2] = (uint8_t)(word & 0xFF);
+        at[3] = (uint8_t)(word >> 8);
+        *read = false;
+        length = 4;
+        if (one_in(2)) {
+            at[4] = sb2_pec(bytes_of(at, 4));
+            length = 5;
+        }
+    }
+    switch (below(24)) {
+    case 0: at[below((uint32_t)length)] ^= (uint8_t)(1u << below(8)); break;
+    case 1: *read = !*read; break;
+    case 2: length = below((uint32_t)length); break;
+    case 3: fill(at + length, 40), length += below(36); break;
+    case 4: fill(at, 64), length = below(65); break;
+    default: break;
+    }
+    return length;
+}
+
+static void play_message(const uint8_t *message, size_t message_length, bool read, size_t length)
+{
+    lend_area(state_area, length);
+    lend_room(room_size(SB2_REPLY_ROOM));
+    struct sb2_bytes s = lend(0, service, service_length);
+    struct sb2_bytes f = lend(1, factory, factory_length);
+    struct sb2_bytes m = lend(2, message, message_length);
+    begin("transact (service, factory, bytes)", 3, true, true);
+    note(read);
+    size_t sent;
+    uint32_t proved = snatchblock_transact(area.p, length, s.at, s.length, f.at, f.length, read, m.at, m.length, room.p,
+                                           room.length);
+    int answer = sb2_area_transact(area.s, length, read, m, s, f, room.s, room.length, &sent);
+    compare(proved, (uint32_t)answer | (uint32_t)sent << 8);
+    came_up(TRANSACT, (uint32_t)answer);
+    if (answer == SB2_SERVED)
+        other[(read ? READ_SERVED : WRITE_SERVED) + message[1]]++;
+    keep_area();
+}
+
+static void play_transact(bool whole)
+{
+    uint8_t message[64];
+    bool read;
+    size_t length = some_message(message, &read);
+    play_message(message, length, read, whole ? SNATCHBLOCK_AREA : area_size());
+}
+
+/* ---- sheets */
+
+static uint8_t made_sheet[145];
+
+/* Writes a sheet of random bodies by both programs; gives its length, 0 if refused. */
+static size_t play_write_sheet(bool likely)
+{
+    struct sb2_body bodies[4];
+    uint8_t body[80];
+    begin("write_sheet (four bodies)", 4, false, true);
+    for (int i = 0; i < 4; i++) {
+        bodies[i].given = !one_in(3);
+        size_t length = likely || !one_in(12) ? below(33) : 30 + below(40);
+        fill(body, length);
+        bodies[i].bytes = lend(i, body, length);
+        note(bodies[i].given);
+    }
+    lend_room(likely ? SB2_SHEET_ROOM : room_size(SB2_SHEET_ROOM));
+    size_t length;
+    uint32_t proved = snatchblock_write_sheet(
+        room.p, room.length, bodies[0].given, bodies[0].bytes.at, bodies[0].bytes.length, bodies[1].given,
+        bodies[1].bytes.at, bodies[1].bytes.length, bodies[2].given, bodies[2].bytes.at, bodies[2].bytes.length,
+        bodies[3].given, bodies[3].bytes.at, bodies[3].bytes.length);
+    int answer = sb2_sheet_write(bodies, room.s, room.length, &length);
+    compare(proved, (uint32_t)answer | (uint32_t)length << 8);
+    came_up(WRITE_SHEET, (uint32_t)answer);
+    memcpy(made_sheet, room.s, length);
+    return length;
+}
+
+/* Moves one byte of one row, or the count of rows, by one. */
+static void bend_sheet(uint8_t at[145])
+{
+    size_t place = one_in(6) ? 0 : 1 + 4 * below(at[0] ? at[0] : 1) + below(4);
+    at[place] = (uint8_t)(at[place] + (one_in(2) ? 1 : -1));
+}
+
+/* A sheet, mostly good, put at `at`; gives its length. */
+static size_t some_sheet(uint8_t at[145])
+{
+    at[0] = 0;
+    if (one_in(4))
+        return 1;
+    size_t length = play_write_sheet(true);
+    memcpy(at, made_sheet, length);
+    switch (below(12)) {
+    case 0: at[below((uint32_t)length)] ^= (uint8_t)(1u << below(8)); return length;
+    case 1: return below((uint32_t)length);
+    case 2: case 3: case 4: bend_sheet(at); return length;
+    case 5:
+        if (length == 145)
+            return length;
+        at[length] = (uint8_t)draw();
+        return length + 1;
+    default: return length;
+    }
+}
+
+static void play_sheets(void)
+{
+    for (int i = 0; i < 4; i++)
+        (void)play_write_sheet(false);
+    service_length = some_sheet(service);
+    factory_length = some_sheet(factory);
+    if (one_in(8)) { /* one body of 32 or 33 bytes, which are there */
+        const uint8_t row[5] = {1, (uint8_t)(0x1F + below(6)), (uint8_t)(32 + below(2)), 5, 0};
+        memcpy(service, row, sizeof row);
+        fill(service + 5, 33);
+        service_length = 5u + row[2];
+    }
+    for (int i = 0; i < 2; i++) {
+        struct sb2_bytes sheet = lend(0, i ? factory : service, i ? factory_length : service_length);
+        begin("is_sheet", 1, false, false);
+        bool second = sb2_sheet_good(sheet);
+        compare(snatchblock_is_sheet(sheet.at, sheet.length), second);
+        came_up(IS_SHEET, second);
+    }
+    for (int i = 0; i < 6; i++) {
+        struct sb2_bytes s = lend(0, service, service_length);
+        struct sb2_bytes f = lend(1, factory, factory_length);
+        uint8_t tag = (uint8_t)(i < 4 ? 0x20 + i : (int)below(256));
+        begin("block (service, factory)", 2, false, false);
+        note(tag);
+        uint64_t proved = snatchblock_block(s.at, s.length, f.at, f.length, tag);
+        struct sb2_block block;
+        int answer = sb2_sheet_block(s, f, tag, &block);
+        compare(proved, (uint64_t)answer | (uint64_t)block.part.length << 8 | (uint64_t)block.part.offset << 16 |
+                            (uint64_t)!block.in_service << 32);
+        came_up(BLOCK, (uint64_t)answer);
+        if (answer == SB2_SERVED)
+            other[block.in_service ? BLOCK_SERVICE : block.part.offset ? BLOCK_FACTORY : BLOCK_NEITHER]++;
+    }
+}
+
+/* ---- the pack's life */
+
+static void play_life(void)
+{
+    play_sheets();
+    play_set_up(true);
+    uint32_t samples = below(4); /* of four calls, so many are samples */
+    for (uint32_t left = 50 + below(300); left > 0; left--) {
+        if (below(4) < samples)
+            play_sample(!one_in(60));
+        else
+            play_transact(!one_in(60));
+    }
+    play_sound();
+}
+
+static void put(size_t at, size_t bytes, uint64_t value)
+{
+    for (size_t i = 0; i < bytes; i++)
+        state_area[at + i] = (uint8_t)(value >> 8 * i);
+}
+
+/* Changes one field of the area to a value at one of its borders, or to anything. */
+static void bend_area(void)
+{
+    uint64_t full = (uint64_t)(state_area[169] | state_area[170] << 8) * SB2_MS_PER_HOUR;
+    switch (below(14)) {
+    case 0: put(0, 1, 5 + below(5)); break;
+    case 1: put(27, 1, below(3)); break;
+    case 2: put(28, 1, below(3)); break;
+    case 3: put(29, 1, below(3)); break;
+    case 4: put(173, 1, below(3)); break;
+    case 5: put(160, 1, one_in(2) ? below(3) : 59 + below(4)); break;
+    case 6: put(161, 8, full - 1 + below(3)); break;
+    case 7: put(161, 8, one_in(2) ? below(2) : draw() >> below(64)); break;
+    case 8: put(174, 4, one_in(2) ? below(3) : 59999 + below(3)); break;
+    case 9: put(178, 4, one_in(2) ? below(3) : 9999 + below(3)); break;
+    case 10: put(182, 4, one_in(2) ? below(3) : 29998 + below(3)); break;
+    case 11: put(1 + 2 * below(9), 2, below(3)); break;
+    case 12: put(169, 2, below(3)); break;
+    default: state_area[below(SNATCHBLOCK_AREA)] = (uint8_t)draw(); break;
+    }
+}
+
+static uint64_t magnitude(int16_t value)
+{
+    return (uint64_t)(value < 0 ? -(int32_t)value : value);
+}
+
+/* Reads AtRateOK with a charge that just covers 10 s, or is one mA·ms off it. */
+static void play_at_rate_ok(void)
+{
+    static const uint16_t even_voltages[] = {1, 10, 5000, 10000, 12500, 20000}; /* divisors of 100,000,000 */
+    struct sb2_state state;
+    if (one_in(2))
+        put(3, 2, even_voltages[below(sizeof even_voltages / sizeof *even_voltages)]);
+    put(25, 2, (uint16_t)(one_in(4) ? 0x8000 : 0xFFFF - below(3000)));
+    put(29, 1, below(2));
+    put(169, 2, 65535);
+    (void)sb2_area_load(bytes_of(state_area, SNATCHBLOCK_AREA), &state);
+    uint64_t design = state.settings.design_voltage ? state.settings.design_voltage : 1;
+    uint64_t rate = magnitude(state.host.at_rate) * 10000;
+    uint64_t discharge = state.latest.current < 0 ? magnitude(state.latest.current) * 10000 : 0;
+    put(161, 8, (state.host.capacity_mode ? (rate * 10000 + design - 1) / design : rate) + discharge - 1 + below(3));
+    const uint8_t message[3] = {0x16, 0x07, 0x17};
+    play_message(message, 3, true, SNATCHBLOCK_AREA);
+}
+
+/* Reads the status with RemainingTimeAlarm at the word 12, or one off it. */
+static void play_time_alarm(void)
+{
+    struct sb2_state state;
+    if (!sb2_area_load(bytes_of(state_area, SNATCHBLOCK_AREA), &state) || !sb2_sound(&state))
+        return;
+    const uint8_t ask[3] = {0x16, 0x12, 0x17};
+    play_message(ask, 3, true, SNATCHBLOCK_AREA);
+    if (room.length >= SB2_REPLY_ROOM)
+        put(23, 2, (uint64_t)(room.s[0] | room.s[1] << 8) - 1 + below(3));
+    const uint8_t status[3] = {0x16, 0x16, 0x17};
+    play_message(status, 3, true, SNATCHBLOCK_AREA);
+}
+
+static void play_areas(void)
+{
+    play_set_up(true);
+    for (int i = 0; i < 30; i++) {
+        uint8_t kept[SNATCHBLOCK_AREA];
+        memcpy(kept, state_area, sizeof kept);
+        if (one_in(10))
+            fill(state_area, AREA_MOST);
+        for (uint32_t bends = below(4); bends > 0; bends--)
+            bend_area();
+        if (one_in(2))
+            fill(state_area + 40, 120); /* kept currents, those beyond the count too */
+        play_sound();
+        if (one_in(2))
+            play_sample(false);
+        else
+            play_transact(false);
+        if (!sb2_area_sound(bytes_of(state_area, SNATCHBLOCK_AREA)))
+            memcpy(state_area, kept, sizeof kept);
+    }
+    for (int i = 0; i < 8; i++) {
+        play_set_up(true);
+        play_time_alarm();
+        play_at_rate_ok();
+    }
+    for (int i = 0; i < 8; i++)
+        play_set_up(false);
+}
+
+/* ---- check bytes */
+
+/* PEC has no longest message. */
+static void play_long_pec(void)
+{
+    static uint8_t bytes[3000];
+    fill(bytes, sizeof bytes);
+    struct sb2_bytes message = lend(0, bytes, below(sizeof bytes + 1));
+    begin("pec", 1, false, false);
+    compare(snatchblock_pec(message.at, message.length), sb2_pec(message));
+    came_up(PEC, 0);
+}
+
+static void play_checks(void)
+{
+    if (one_in(50))
+        play_long_pec();
+    uint8_t a[80], b[80];
+    size_t a_length = one_in(4) ? below(80) : below(40);
+    size_t b_length = one_in(8) ? below(80) : a_length;
+    fill(a, sizeof a);
+    memcpy(b, a, sizeof b);
+    for (uint32_t flips = below(6); flips > 0; flips--)
+        b[below(80)] ^= (uint8_t)(1u << below(8));
+    if (one_in(4))
+        fill(b, sizeof b);
+    if (a_length > 0 && one_in(2))
+        a[a_length - 1] = sb2_pec(bytes_of(a, a_length - 1));
+    struct sb2_bytes one = lend(0, a, a_length);
+    struct sb2_bytes two = lend(1, b, b_length);
+    begin("pec", 1, false, false);
+    compare(snatchblock_pec(one.at, one.length), sb2_pec(one));
+    came_up(PEC, 0);
+    bool accepted = false;
+    begin("exchange_check", 1, false, false);
+    int answer = sb2_check_exchange(one, &accepted);
+    compare(snatchblock_exchange_check(one.at, one.length), (uint32_t)answer | (uint32_t)accepted << 8);
+    came_up(EXCHANGE, (uint32_t)answer);
+    if (answer == SB2_SERVED)
+        other[accepted ? EXCHANGE_RIGHT : EXCHANGE_WRONG]++;
+    uint32_t bits = 0;
+    begin("bit_comparison", 2, false, false);
+    answer = sb2_compare(one, two, &bits);
+    compare(snatchblock_bit_comparison(one.at, one.length, two.at, two.length), (uint32_t)answer | bits << 8);
+    came_up(BITS, (uint32_t)answer);
+}
+
+/* ---- keys */
+
+/* A name, rich in the bytes that are escaped. */
+static size_t some_name(uint8_t at[64])
+{
+    size_t length = one_in(8) ? 30 + below(6) : below(33);
+    fill(at, length);
+    for (size_t i = 0; i < length; i++)
+        if (one_in(4))
+            at[i] = one_in(2) ? 0x2F : 0x5C;
+    return length;
+}
+
+static void play_read_key(const uint8_t *at, size_t length)
+{
+    struct sb2_bytes key = lend(0, at, length);
+    struct sb2_key parts;
+    begin("read_key", 1, false, false);
+    uint64_t proved = snatchblock_read_key(key.at, key.length);
+    int answer = sb2_key_read(key, &parts);
+    compare(proved, (uint64_t)answer | (uint64_t)parts.maker.length << 8 | (uint64_t)parts.device.length << 16 |
+                        (uint64_t)parts.date << 24 | (uint64_t)parts.serial << 40);
+    came_up(READ_KEY, (uint64_t)answer);
+}
+
+static void play_unescape(const uint8_t *at, size_t length)
+{
+    struct sb2_bytes part = lend(0, at, length);
+    lend_room(one_in(2) ? 64 : below(40));
+    size_t plain;
+    begin("unescape", 1, false, true);
+    uint32_t proved = snatchblock_unescape(part.at, part.length, room.p, room.length);
+    int answer = sb2_key_unescape(part, room.s, room.length, &plain);
+    compare(proved, (uint32_t)answer | (uint32_t)plain << 8);
+    came_up(UNESCAPE, (uint32_t)answer);
+}
+
+/* Puts a name of about 32 plain bytes, escaped, with a slash behind it. */
+static size_t put_long_name(uint8_t *at)
+{
+    size_t place = 0;
+    for (size_t left = one_in(2) ? 30 + below(6) : below(40); left > 0; left--) {
+        uint8_t byte = one_in(4) ? (one_in(2) ? 0x2F : 0x5C) : (uint8_t)draw();
+        if (byte == 0x2F || byte == 0x5C)
+            at[place++] = 0x5C;
+        at[place++] = byte;
+    }
+    at[place++] = 0x2F;
+    return place;
+}
+
+/* A key that was put together without the writer, its names too long at times. */
+static void play_long_key(void)
+{
+    uint8_t key[200];
+    size_t place = put_long_name(key);
+    if (one_in(2))
+        play_unescape(key, place - 1);
+    place += put_long_name(key + place);
+    for (int i = 0; i < 9; i++) {
+        static const char digits[] = "0123456789abcdef";
+        key[place++] = (uint8_t)(i == 4 ? '/' : digits[below(16)]);
+    }
+    if (one_in(8))
+        key[place - 1 - below(12)] = (uint8_t)draw();
+    play_read_key(key, place);
+}
+
+static void play_keys(void)
+{
+    uint8_t maker[64], device[64], key[160];
+    struct sb2_bytes m = lend(0, maker, some_name(maker));
+    struct sb2_bytes d = lend(1, device, some_name(device));
+    uint16_t date = some_word(), serial = some_word();
+    lend_room(room_size(SB2_KEY_ROOM));
+    size_t length;
+    begin("write_key (maker, device)", 2, false, true);
+    note(date), note(serial);
+    uint32_t proved = snatchblock_write_key(m.at, m.length, d.at, d.length, date, serial, room.p, room.length);
+    int answer = sb2_key_write(m, d, date, serial, room.s, room.length, &length);
+    compare(proved, (uint32_t)answer | (uint32_t)length << 8);
+    came_up(WRITE_KEY, (uint32_t)answer);
+    memcpy(key, room.s, length);
+    play_read_key(key, length);
+    if (length > 0) {
+        struct sb2_key parts;
+        (void)sb2_key_read(bytes_of(key, length), &parts);
+        play_unescape(key, parts.maker.length);
+        play_unescape(key + parts.device.offset, parts.device.length);
+        static const uint8_t bends[] = {0x2F, 0x5C, 0x41, 0x30, 0x66, 0x67, 0x46};
+        key[below((uint32_t)length)] = bends[below(sizeof bends)];
+        play_read_key(key, length);
+        play_read_key(key, below((uint32_t)length));
+        play_unescape(key, below((uint32_t)length));
+    }
+    play_long_key();
+    fill(key, sizeof key);
+    play_read_key(key, below(sizeof key));
+    play_unescape(maker, m.length);
+}
+
+/* ---- captures */
+
+static size_t some_capture(uint8_t *at)
+{
+    size_t rows = one_in(200) ? below(256) : below(12);
+    size_t place = 1 + 2 * rows;
+    at[0] = (uint8_t)rows;
+    for (size_t i = 0; i < rows; i++) {
+        size_t length = below(38);
+        at[1 + 2 * i] = (uint8_t)below(2);
+        at[2 + 2 * i] = (uint8_t)length;
+        fill(at + place, length);
+        place += length;
+    }
+    size_t bent = below(1 + 2 * (uint32_t)rows);
+    switch (below(10)) {
+    case 0: return below((uint32_t)place + 1);
+    case 1: return place + 1;
+    case 2: at[bent] ^= (uint8_t)(1u << below(8)); return place;
+    case 3: at[bent] = (uint8_t)(at[bent] + (one_in(2) ? 1 : -1)); return place;
+    case 4: /* a row of 38 bytes, which are there */
+        if (rows == 0)
+            return place;
+        place -= at[2 * rows];
+        at[2 * rows] = (uint8_t)(37 + below(2));
+        fill(at + place, 38);
+        return place + at[2 * rows];
+    default: return place;
+    }
+}
+
+static uint64_t play_step(struct sb2_bytes capture, size_t row, size_t place)
+{
+    struct sb2_walk walk = {capture, row, place};
+    struct sb2_row found;
+    begin("step_capture", 1, false, false);
+    note(row), note(place);
+    uint64_t second = (uint64_t)sb2_capture_test(capture);
+    if (second == SB2_SERVED && sb2_walk_next(&walk, &found))
+        second = 1u << 8 | (uint64_t)found.read << 9 | (uint64_t)found.body.length << 16 | (uint64_t)walk.place << 32;
+    compare(snatchblock_step_capture(capture.at, capture.length, row, place), second);
+    came_up(STEP, second);
+    if ((second & 0xFF) == 0)
+        other[second ? STEP_ROW : STEP_END]++;
+    return second;
+}
+
+static void play_captures(void)
+{
+    static uint8_t bytes[SB2_CAPTURE_MOST + 2];
+    struct sb2_walk walk;
+    size_t length = some_capture(bytes);
+    struct sb2_bytes capture = lend(0, bytes, length);
+    begin("open_capture", 1, false, false);
+    uint32_t second = (uint32_t)sb2_walk_begin(capture, &walk);
+    if (second == SB2_SERVED)
+        second |= (uint32_t)capture.at[0] << 8 | (uint32_t)walk.place << 16;
+    compare(snatchblock_open_capture(capture.at, capture.length), second);
+    came_up(OPEN, second);
+    size_t row = 0, place = second >> 16;
+    for (;;) {
+        uint64_t step = play_step(capture, row, place);
+        if ((step >> 8 & 1) == 0)
+            break;
+        row++;
+        place = step >> 32;
+    }
+    for (int i = 0; i < 3; i++)
+        (void)play_step(capture, one_in(4) ? (size_t)draw() : below(14), one_in(4) ? (size_t)draw() : below(300));
+}
+
+/* ---- all of it */
+
+static void play(void)
+{
+    switch (below(10)) {
+    case 0: case 1: case 2: play_life(); break;
+    case 3: case 4: play_areas(); break;
+    case 5: for (int i = 0; i < 20; i++) play_checks(); break;
+    case 6: case 7: for (int i = 0; i < 10; i++) play_keys(); break;
+    case 8: for (int i = 0; i < 20; i++) play_sheets(); break;
+    default: for (int i = 0; i < 20; i++) play_captures(); break;
+    }
+}
+
+static bool count_other(const char *name, size_t first, size_t last)
+{
+    uint64_t fewest = other[first], all = 0;
+    for (size_t i = first; i <= last; i++) {
+        all += other[i];
+        if (other[i] < fewest)
+            fewest = other[i];
+    }
+    printf("  %-46s %9llu", name, (unsigned long long)all);
+    if (first != last)
+        printf(", of the rarest %llu", (unsigned long long)fewest);
+    printf("%s\n", fewest == 0 ? "  NEVER" : "");
+    return fewest > 0;
+}
+
+/* Prints each class; false if one never came up. */
+static bool tally(void)
+{
+    bool all = true;
+    for (int e = 0; e < ENTRIES; e++) {
+        printf("  %s:", entries[e].name);
+        for (int a = 0; a < ANSWERS; a++)
+            if (entries[e].answers >> a & 1) {
+                printf("  %d: %llu", a, (unsigned long long)came[e][a]);
+                if (came[e][a] == 0) {
+                    printf(" NEVER");
+                    all = false;
+                }
+            }
+        printf("\n");
+    }
+    static const struct {
+        const char *name;
+        size_t first, last;
+    } lines[] = {
+        {"reads served, 00 to 1C", READ_SERVED, READ_SERVED + 0x1C},
+        {"block reads served, 20 to 23", READ_SERVED + 0x20, READ_SERVED + 0x23},
+        {"writes served, 00 to 04", WRITE_SERVED, WRITE_SERVED + 4},
+        {"samples with no message", MESSAGES_0, MESSAGES_0},
+        {"with one", MESSAGES_1, MESSAGES_1},
+        {"with two", MESSAGES_2, MESSAGES_2},
+        {"with three", MESSAGES_3, MESSAGES_3},
+        {"with four", MESSAGES_4, MESSAGES_4},
+        {"alarm bits 8 and 9", ALARM_BIT + 8, ALARM_BIT + 9},
+        {"alarm bits 11 and 12", ALARM_BIT + 11, ALARM_BIT + 12},
+        {"alarm bit 14", ALARM_BIT + 14, ALARM_BIT + 14},
+        {"samples over the counter's wrap", COUNTER_WRAPPED, COUNTER_WRAPPED},
+        {"holds that ran out", HOLD_RAN_OUT, HOLD_RAN_OUT},
+        {"exchanges accepted, and not", EXCHANGE_RIGHT, EXCHANGE_WRONG},
+        {"names of the service sheet, the factory's, neither", BLOCK_SERVICE, BLOCK_NEITHER},
+        {"steps to a row, and at the end", STEP_ROW, STEP_END},
+    };
+    for (size_t i = 0; i < sizeof lines / sizeof *lines; i++)
+        all = count_other(lines[i].name, lines[i].first, lines[i].last) && all;
+    return all;
+}
+
+static void end_run(void)
+{
+    bool all = tally();
+    printf("compare: %llu calls agree, seed %llu%s\n", (unsigned long long)calls, (unsigned long long)seed,
+           all ? ", every class came up" : "");
+    if (all || wanted_calls < LEAST)
+        exit(0);
+    printf("compare: a class never came up\n");
+    exit(1);
+}
+
+int main(int count, char **given)
+{
+    seed = count > 1 ? strtoull(given[1], NULL, 0) : 1;
+    wanted_calls = count > 2 ? strtoull(given[2], NULL, 0) : USUAL;
+    random_state = seed * 0x9E3779B97F4A7C15u + 0x1234567u;
+    if (random_state == 0)
+        random_state = 1;
+    make_lent();
+    signal(SIGSEGV, stopped);
+    signal(SIGBUS, stopped);
+    signal(SIGILL, stopped);
+    signal(SIGFPE, stopped);
+    service_length = factory_length = 1;
+    for (;;)
+        play();
+}
