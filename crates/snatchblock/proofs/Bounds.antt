@@ -35,7 +35,7 @@ right-off : (a b : Bool) → a || b ≡ false → (a ≡ false) × (b ≡ false)
 right-off true b e = absurd (let z : _≡_ {A = ℕ} 0 1 = cc in omega arith)
 right-off false b e = (refl, e)
 
-both : (a b : Bool) → a && b ≡ true → (a ≡ true) × (b ≡ true)
+pub both : (a b : Bool) → a && b ≡ true → (a ≡ true) × (b ≡ true)
 both true b e = (refl, e)
 both false b e = absurd (let z : _≡_ {A = ℕ} 0 1 = cc in omega arith)
 

@@ -1,20 +1,23 @@
 // The pack for programs in C: include/snatchblock.h says what each function answers.
 ghost use mathlib.Core.Path.{_≡_};
 ghost use mathlib.Core.Bool.{false};
-ghost use Prim.Native.Nat.{_<_, _≤_};
+ghost use Prim.Native.Nat.{_+_, _*_, _<_, _≤_};
 ghost use lib.ListN.{length};
-ghost use Rattle.capture.specs.Walk.{openedOf};
+ghost use Rattle.capture.specs.Walk.{openedOf, stepAt};
 ghost use Rattle.key.specs.Key as keys;
 ghost use Rattle.pec.specs.Messages.{exchangeCheck, bitComparison};
 ghost use Rattle.pec.specs.Pec.{pecOf};
+ghost use Rattle.sheet.specs.Block.{partOf, blockAnswer};
 ghost use Rattle.sheet.specs.Sheet.{isSheet};
 ghost use Rattle.sheet_writer.specs.Writing as sheets;
 ghost use Rattle.pack.specs.SetUp.{setUpOf};
 ghost use Rattle.snatchblock.specs.Calls.{sampleWith, setupWith, startNumber, startArea, soundIn, stays, areaAfter, sampleNumber, sampleArea, sampleRoom, transactNumber, transactArea, transactRoom};
-ghost use Rattle.snatchblock.specs.Packed.{packed, oneIf, checkNumber, comparisonNumber, keyNumber, sheetNumber, openedNumber, plainNumber, plainAfter};
+ghost use Rattle.snatchblock.specs.Packed.{packed, oneIf, checkNumber, comparisonNumber, keyNumber, sheetNumber, openedNumber, plainNumber, plainAfter, readNumber, placeNumber, blockNumber, rowNumber, stepNumber};
+use capture::Step;
 use pack::Sample;
 use pack::Setup;
 use pack::State;
+use sheet::Found;
 
 fn number(answer: u8) -> u16
     ensures { λ r. ⌜ (r ≡ answer) × (r < 256) ⌝ }
@@ -258,7 +261,81 @@ pub extern "C" fn snatchblock_transact<'a>(
     if held.answer != 0 {
         return 1;
     }
-    let out = bus::transact(held.state, service, factory, read, bytes, room);
-    keep(area, out.answer, out.state);
-    pack_up(number(out.answer), out.length)
+    let done = bus::transact(held.state, service, factory, read, bytes, room);
+    keep(area, done.answer, done.state);
+    pack_up(number(done.answer), done.length)
+}
+
+fn key_up(answer: u16, maker: usize, device: usize, date: u16, serial: u16) -> u64
+    requires { ⌜ (answer < 256) × ((maker ≤ 64) × (device ≤ 64)) ⌝ }
+    ensures { λ r. ⌜ r ≡ answer + 256 * maker + 65536 * device + 16777216 * date + 1099511627776 * serial ⌝ }
+{
+    (answer as u64)
+        + 256 * (maker as u64)
+        + 65536 * (device as u64)
+        + 16777216 * (date as u64)
+        + 1099511627776 * (serial as u64)
+}
+
+#[no_mangle]
+pub extern "C" fn snatchblock_read_key(key: &[u8]) -> u64
+    ensures { λ r. ⌜ r ≡ readNumber (keys.readKey (now (key .entry))) ⌝ }
+{
+    let read = key::read_key(key);
+    let maker = key::maker_part(key);
+    let device = key::device_part(key);
+    key_up(
+        read.answer,
+        maker.len(),
+        device.len(),
+        read.date,
+        read.serial,
+    )
+}
+
+fn place_up(answer: u8, start: usize, end: usize, factory: bool) -> u64
+    requires { ⌜ (start ≤ end) × (end ≤ 145) ⌝ }
+    ensures { λ r. ⌜ r ≡ placeNumber answer start end factory ⌝ }
+{
+    let length = end - start;
+    let last = one_if(factory);
+    (answer as u64) + 256 * (length as u64) + 65536 * (start as u64) + 4294967296 * (last as u64)
+}
+
+#[no_mangle]
+pub extern "C" fn snatchblock_block(service: &[u8], factory: &[u8], tag: u8) -> u64
+    ensures { λ r. ⌜ r ≡ blockNumber (blockAnswer (now (service .entry)) (now (factory .entry))) (partOf (now (service .entry)) (now (factory .entry)) tag) ⌝ }
+{
+    if !sheet::is_sheet(service) {
+        return place_up(9, 0, 0, true);
+    }
+    if !sheet::is_sheet(factory) {
+        return place_up(9, 0, 0, true);
+    }
+    match sheet::find(service, tag) {
+        Found::At(start, end) => place_up(0, start, end, false),
+        Found::Nothing => match sheet::find(factory, tag) {
+            Found::At(start, end) => place_up(0, start, end, true),
+            Found::Nothing => place_up(0, 0, 0, true),
+        },
+    }
+}
+
+fn row_up(mark: u8, place: usize, next: usize) -> u64
+    requires { ⌜ (place ≤ next) × (next ≤ 9946) ⌝ }
+    ensures { λ r. ⌜ r ≡ rowNumber mark place next ⌝ }
+{
+    let length = next - place;
+    256 + 512 * (mark as u64) + 65536 * (length as u64) + 4294967296 * (next as u64)
+}
+
+#[no_mangle]
+pub extern "C" fn snatchblock_step_capture(bytes: &[u8], row: usize, place: usize) -> u64
+    ensures { λ r. ⌜ r ≡ stepNumber place (stepAt (now (bytes .entry)) row place) ⌝ }
+{
+    match capture::step_at(bytes, row, place) {
+        Step::Next(mark, _, next) => row_up(mark, place, next),
+        Step::End => 0,
+        Step::NotCapture => 14,
+    }
 }
