@@ -76,7 +76,7 @@ pub fn is_sheet(bytes: &[u8]) -> bool
 }
 
 // Where a sheet has the body of a tag.
-fn find(sheet: &[u8], tag: u8) -> Found
+pub fn find(sheet: &[u8], tag: u8) -> Found
     requires { ⌜ isSheet (now sheet) ≡ true ⌝ }
     ensures { λ r. ⌜ r ≡ findIn (now (sheet .entry)) tag ⌝ }
 {

@@ -1,0 +1,81 @@
+-- Results of several numbers in one: the answer number in the low byte, the rest above it. Definitions: assumes nothing.
+use mathlib.Core.Bool.{Bool, true, false, cond}
+use mathlib.Core.List.{List}
+use mathlib.Core.Option.{Option}
+use Prim.Native.Nat.{ℕ, _+_, _*_, _-_}
+use lib.Dec.{leb}
+use lib.ListN.{length}
+use Rattle.capture.specs.declared.Opened.{Opened}
+use Rattle.capture.specs.declared.Step.{Step}
+use Rattle.capture.specs.declared.Step.the-variants.{Next, End, NotCapture}
+use Rattle.key.specs.Key.{Parts, readOf, makerOf, deviceOf, unescaped, plainWrote, plainRoom}
+use Rattle.key.specs.declared.Wrote.{Wrote}
+use Rattle.pec.specs.declared.Checked.{Checked}
+use Rattle.pec.specs.declared.Compared.{Compared}
+use Rattle.sheet.specs.Block.{Part, ofService, ofFactory}
+use Rattle.sheet_writer.specs.declared.Wrote as sheet
+
+-- an answer, and a number above it
+abbrev pub packed : ℕ → ℕ → ℕ
+packed answer above = answer + 256 * above
+
+-- 1 for true and 0 for false
+abbrev pub oneIf : Bool → ℕ
+oneIf b = cond b 1 0
+
+-- of the exchange check: answer, right
+abbrev pub checkNumber : Checked → ℕ
+checkNumber c = packed (c .answer) (oneIf (c .right))
+
+-- of the bit comparison: answer, bits
+abbrev pub comparisonNumber : Compared → ℕ
+comparisonNumber c = packed (c .answer) (c .bits)
+
+-- of a key or a name written: answer, length
+abbrev pub keyNumber : Wrote → ℕ
+keyNumber w = packed (w .answer) (w .length)
+
+-- of a sheet written: answer, length
+abbrev pub sheetNumber : sheet.Wrote → ℕ
+sheetNumber w = packed (w .answer) (w .length)
+
+-- of a capture opened: answer, rows, place of the first body
+abbrev pub openedNumber : Opened → ℕ
+openedNumber o = packed (o .answer) (o .rows + 256 * o .place)
+
+-- a part whose length has no room above the answer: 2^24 bytes or more, and no name
+abbrev pub tooLong : List ℕ → Bool
+tooLong part = leb 16777216 (length part)
+
+-- such a part is answered 13, any other as a name is read back plain
+unfoldable pub plainNumber : List ℕ → List ℕ → ℕ
+plainNumber part room = cond (tooLong part) 13 (keyNumber (plainWrote (unescaped part) room))
+
+-- and the room stays
+unfoldable pub plainAfter : List ℕ → List ℕ → List ℕ
+plainAfter part room = cond (tooLong part) room (plainRoom (unescaped part) room)
+
+-- ---- eight bytes: the answer in the lowest, the rest in fields of whole bytes but for a row's first two bits
+
+-- of a key read: answer, length of the maker part, length of the device part, date, serial
+abbrev pub readNumber : Option Parts → ℕ
+readNumber o =
+    readOf o .answer + 256 * length (makerOf o) + 65536 * length (deviceOf o) + 16777216 * readOf o .date
+    + 1099511627776 * readOf o .serial
+
+-- of a part of a sheet: answer, length, offset, 1 for the factory sheet
+abbrev pub placeNumber : ℕ → ℕ → ℕ → Bool → ℕ
+placeNumber answer start end factory = answer + 256 * (end - start) + 65536 * start + 4294967296 * oneIf factory
+
+abbrev pub blockNumber : ℕ → Part → ℕ
+blockNumber answer (ofService start end) = placeNumber answer start end false
+blockNumber answer (ofFactory start end) = placeNumber answer start end true
+
+-- of a capture's row at a place: answer 0, 1 for a row, its mark, its body's length, the next place; at the end 0; of no capture 14
+abbrev pub rowNumber : ℕ → ℕ → ℕ → ℕ
+rowNumber mark place next = 256 + 512 * mark + 65536 * (next - place) + 4294967296 * next
+
+abbrev pub stepNumber : ℕ → Step → ℕ
+stepNumber place (Next mark row next) = rowNumber mark place next
+stepNumber place End = 0
+stepNumber place NotCapture = 14
