@@ -18,6 +18,10 @@ findRow (suc n) s at tag = cond (eqb (tagAt s at) tag) (At (offsetAt s at) (offs
 abbrev pub findIn : List ℕ → ℕ → Found
 findIn s tag = findRow (getD s 0 0) s 1 tag
 
+-- the same of any bytes: what is no sheet lists nothing
+unfoldable pub listedIn : List ℕ → ℕ → Found
+listedIn s tag = cond (isSheet s) (findIn s tag) Nothing
+
 -- the bytes of s from a up to e
 abbrev pub between : List ℕ → ℕ → ℕ → List ℕ
 between s a e = take (e - a) (drop a s)

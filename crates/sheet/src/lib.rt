@@ -5,7 +5,7 @@ ghost use Prim.Native.Nat.{_+_, _*_, _<_, _≤_};
 ghost use lib.ListN.{length};
 ghost use denote.Ref.{ptr};
 ghost use Rattle.sheet.specs.Sheet.{rowOk, isSheet};
-ghost use Rattle.sheet.specs.Block.{findIn, partOf, placeOf, blockOf, blockAnswer};
+ghost use Rattle.sheet.specs.Block.{listedIn, findIn, partOf, placeOf, blockOf, blockAnswer};
 
 // Where the body of a tag lies in a sheet: from its first byte to past its last.
 pub enum Found {
@@ -76,7 +76,7 @@ pub fn is_sheet(bytes: &[u8]) -> bool
 }
 
 // Where a sheet has the body of a tag.
-pub fn find(sheet: &[u8], tag: u8) -> Found
+fn find(sheet: &[u8], tag: u8) -> Found
     requires { ⌜ isSheet (now sheet) ≡ true ⌝ }
     ensures { λ r. ⌜ r ≡ findIn (now (sheet .entry)) tag ⌝ }
 {
@@ -90,6 +90,16 @@ pub fn find(sheet: &[u8], tag: u8) -> Found
         }
         at += 4;
         i += 1;
+    }
+    Found::Nothing
+}
+
+// The same of any bytes: what is no sheet lists nothing.
+pub fn listed(sheet: &[u8], tag: u8) -> Found
+    ensures { λ r. ⌜ r ≡ listedIn (now (sheet .entry)) tag ⌝ }
+{
+    if is_sheet(sheet) {
+        return find(sheet, tag);
     }
     Found::Nothing
 }

@@ -15,7 +15,7 @@ use Rattle.capture.specs.Walk.{openedOf}
 use Rattle.capture.specs.declared.Opened.{Opened}
 use Rattle.key.proofs.Unescaping.{unescaped-is}
 use Rattle.key.proofs.Writing.{escape-length, key-length}
-use Rattle.key.specs.Key.{marked, escapeByte, escape, keyOf, refused, unescaped, plainWrote}
+use Rattle.key.specs.Key.{marked, escapeByte, escape, keyOf, refused, unescaped, nameIn, plainWrote}
 use Rattle.key.specs.Key as key
 use Rattle.key.specs.declared.Wrote.{Wrote}
 use Rattle.pec.proofs.Loops.{apart-le}
@@ -80,13 +80,17 @@ escape-longer (x ∷ name) = omega (arith, length-append (escapeByte x) (escape 
 
 -- a plain name's answer and length
 pub plain-most : (part room : List ℕ)
-    → (plainWrote (unescaped part) room .answer ≤ 13) × (plainWrote (unescaped part) room .length ≤ length part)
-plain-most part room = go (unescaped part) refl
+    → (plainWrote (nameIn part) room .answer ≤ 13) × (plainWrote (nameIn part) room .length ≤ 64)
+unfolding nameIn
+plain-most part room = chosen Small (ltb 64 (length part)) (λ h. (omega arith, omega arith)) (λ h. go (unescaped part) refl (ltb-false 64 (length part) h))
   where
-    go : (o : Option (List ℕ)) → unescaped part ≡ o → (plainWrote o room .answer ≤ 13) × (plainWrote o room .length ≤ length part)
-    go none e = (omega arith, omega arith)
-    go (some name) e =
-        chosen (λ (w : Wrote). (w .answer ≤ 13) × (w .length ≤ length part)) (ltb (length room) (length name))
+    Small : Option (List ℕ) → Type 0
+    Small o = (plainWrote o room .answer ≤ 13) × (plainWrote o room .length ≤ 64)
+
+    go : (o : Option (List ℕ)) → unescaped part ≡ o → length part ≤ 64 → Small o
+    go none e l = (omega arith, omega arith)
+    go (some name) e l =
+        chosen (λ (w : Wrote). (w .answer ≤ 13) × (w .length ≤ 64)) (ltb (length room) (length name))
         (λ h. (omega arith, omega arith))
         (λ h. (omega arith, omega (arith, escape-longer name, ap length (unescaped-is part name e))))
 

@@ -1,14 +1,13 @@
 -- Results of several numbers in one: the answer number in the low byte, the rest above it. Definitions: assumes nothing.
 use mathlib.Core.Bool.{Bool, true, false, cond}
-use mathlib.Core.List.{List}
 use mathlib.Core.Option.{Option}
 use Prim.Native.Nat.{ℕ, _+_, _*_, _-_}
-use lib.Dec.{leb}
+use lib.Dec.{eqb}
 use lib.ListN.{length}
 use Rattle.capture.specs.declared.Opened.{Opened}
 use Rattle.capture.specs.declared.Step.{Step}
 use Rattle.capture.specs.declared.Step.the-variants.{Next, End, NotCapture}
-use Rattle.key.specs.Key.{Parts, readOf, makerOf, deviceOf, unescaped, plainWrote, plainRoom}
+use Rattle.key.specs.Key.{Parts, readOf, makerOf, deviceOf}
 use Rattle.key.specs.declared.Wrote.{Wrote}
 use Rattle.pec.specs.declared.Checked.{Checked}
 use Rattle.pec.specs.declared.Compared.{Compared}
@@ -43,18 +42,6 @@ sheetNumber w = packed (w .answer) (w .length)
 abbrev pub openedNumber : Opened → ℕ
 openedNumber o = packed (o .answer) (o .rows + 256 * o .place)
 
--- a part whose length has no room above the answer: 2^24 bytes or more, and no name
-abbrev pub tooLong : List ℕ → Bool
-tooLong part = leb 16777216 (length part)
-
--- such a part is answered 13, any other as a name is read back plain
-unfoldable pub plainNumber : List ℕ → List ℕ → ℕ
-plainNumber part room = cond (tooLong part) 13 (keyNumber (plainWrote (unescaped part) room))
-
--- and the room stays
-unfoldable pub plainAfter : List ℕ → List ℕ → List ℕ
-plainAfter part room = cond (tooLong part) room (plainRoom (unescaped part) room)
-
 -- ---- eight bytes: the answer in the lowest, the rest in fields of whole bytes but for a row's first two bits
 
 -- of a key read: answer, length of the maker part, length of the device part, date, serial
@@ -67,9 +54,13 @@ readNumber o =
 abbrev pub placeNumber : ℕ → ℕ → ℕ → Bool → ℕ
 placeNumber answer start end factory = answer + 256 * (end - start) + 65536 * start + 4294967296 * oneIf factory
 
-abbrev pub blockNumber : ℕ → Part → ℕ
-blockNumber answer (ofService start end) = placeNumber answer start end false
-blockNumber answer (ofFactory start end) = placeNumber answer start end true
+abbrev pub partNumber : Part → ℕ
+partNumber (ofService start end) = placeNumber 0 start end false
+partNumber (ofFactory start end) = placeNumber 0 start end true
+
+-- a refusal's other numbers are 0
+unfoldable pub blockNumber : ℕ → Part → ℕ
+blockNumber answer part = cond (eqb answer 0) (partNumber part) answer
 
 -- of a capture's row at a place: answer 0, 1 for a row, its mark, its body's length, the next place; at the end 0; of no capture 14
 abbrev pub rowNumber : ℕ → ℕ → ℕ → ℕ

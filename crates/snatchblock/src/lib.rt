@@ -12,7 +12,7 @@ ghost use Rattle.sheet.specs.Sheet.{isSheet};
 ghost use Rattle.sheet_writer.specs.Writing as sheets;
 ghost use Rattle.pack.specs.SetUp.{setUpOf};
 ghost use Rattle.snatchblock.specs.Calls.{sampleWith, setupWith, startNumber, startArea, soundIn, stays, areaAfter, sampleNumber, sampleArea, sampleRoom, transactNumber, transactArea, transactRoom};
-ghost use Rattle.snatchblock.specs.Packed.{packed, oneIf, checkNumber, comparisonNumber, keyNumber, sheetNumber, openedNumber, plainNumber, plainAfter, readNumber, placeNumber, blockNumber, rowNumber, stepNumber};
+ghost use Rattle.snatchblock.specs.Packed.{packed, oneIf, checkNumber, comparisonNumber, keyNumber, sheetNumber, openedNumber, readNumber, placeNumber, blockNumber, rowNumber, stepNumber};
 use capture::Step;
 use pack::Sample;
 use pack::Setup;
@@ -82,12 +82,9 @@ pub extern "C" fn snatchblock_write_key(
 
 #[no_mangle]
 pub extern "C" fn snatchblock_unescape(part: &[u8], room: &mut [u8]) -> u32
-    ensures { λ r. ⌜ r ≡ plainNumber (now (part .entry)) (now (room .entry)) ⌝ }
-    ensures { λ _. ⌜ now (room .exit) ≡ plainAfter (now (part .entry)) (now (room .entry)) ⌝ }
+    ensures { λ r. ⌜ r ≡ keyNumber (keys.plainWrote (keys.nameIn (now (part .entry))) (now (room .entry))) ⌝ }
+    ensures { λ _. ⌜ now (room .exit) ≡ keys.plainRoom (keys.nameIn (now (part .entry))) (now (room .entry)) ⌝ }
 {
-    if part.len() >= 16777216 {
-        return 13;
-    }
     let w = key::unescape(part, room);
     pack_up(w.answer, w.length)
 }
@@ -307,14 +304,14 @@ pub extern "C" fn snatchblock_block(service: &[u8], factory: &[u8], tag: u8) -> 
     ensures { λ r. ⌜ r ≡ blockNumber (blockAnswer (now (service .entry)) (now (factory .entry))) (partOf (now (service .entry)) (now (factory .entry)) tag) ⌝ }
 {
     if !sheet::is_sheet(service) {
-        return place_up(9, 0, 0, true);
+        return 9;
     }
     if !sheet::is_sheet(factory) {
-        return place_up(9, 0, 0, true);
+        return 9;
     }
-    match sheet::find(service, tag) {
+    match sheet::listed(service, tag) {
         Found::At(start, end) => place_up(0, start, end, false),
-        Found::Nothing => match sheet::find(factory, tag) {
+        Found::Nothing => match sheet::listed(factory, tag) {
             Found::At(start, end) => place_up(0, start, end, true),
             Found::Nothing => place_up(0, 0, 0, true),
         },

