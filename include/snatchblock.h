@@ -124,7 +124,7 @@ uint64_t snatchblock_read_key(const uint8_t *key, size_t length);
 
 /*
  * A part of a key as the plain name, at the front of the room; its length in bits 8 to 31. Answers 0; 12: the room is
- * shorter than the name; 13: the bytes are no escaped name, or are 2^24 or more.
+ * shorter than the name; 13: no key shows such a part: no escaped name, or over 64 bytes.
  */
 uint32_t snatchblock_unescape(const uint8_t *part, size_t part_length, uint8_t *room, size_t room_length);
 
@@ -144,8 +144,8 @@ bool snatchblock_is_sheet(const uint8_t *bytes, size_t length);
 
 /*
  * Where the block of a tag lies: bits 8 to 15 its length, bits 16 to 31 its offset, bit 32 set if in the factory sheet,
- * clear if in the service sheet. Answers 0, of a tag listed in neither too; 9: one of the two isn't a sheet. In both
- * these cases no bytes of the factory sheet: length and offset 0, bit 32 set.
+ * clear if in the service sheet. Answers 0; a tag listed in neither has no bytes of the factory sheet: length and offset
+ * 0, bit 32 set. 9, and nothing above it: one of the two isn't a sheet.
  */
 uint64_t snatchblock_block(const uint8_t *service, size_t service_length, const uint8_t *factory,
                            size_t factory_length, uint8_t tag);

@@ -130,6 +130,8 @@ int sb2_key_unescape(struct sb2_bytes name, uint8_t *room, size_t room_length, s
     *length = 0;
     size_t end = 0;
     size_t count;
+    if (name.length > 64) /* no name of a key is shown so long */
+        return SB2_NOT_A_KEY;
     if (!pass_name(name, &end, &count) || end != name.length)
         return SB2_NOT_A_KEY;
     if (room_length < count)

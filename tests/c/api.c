@@ -532,9 +532,9 @@ static void blocks(void)
     CHECK(snatchblock_block(service, 8, factory, 14, 0x21), 3ull << 8 | 5ull << 16);
     CHECK(snatchblock_block(service, 8, factory, 14, 0x22), of_factory);
     CHECK(snatchblock_block(service, 8, factory, 14, 0x05), of_factory);
-    CHECK(snatchblock_block(service, 7, factory, 14, 0x20), 9 | of_factory);
-    CHECK(snatchblock_block(service, 8, factory, 13, 0x21), 9 | of_factory);
-    CHECK(snatchblock_block(NO_BYTES, NO_BYTES, 0x20), 9 | of_factory);
+    CHECK(snatchblock_block(service, 7, factory, 14, 0x20), 9);
+    CHECK(snatchblock_block(service, 8, factory, 13, 0x21), 9);
+    CHECK(snatchblock_block(NO_BYTES, NO_BYTES, 0x20), 9);
 }
 
 static void bad_sheets(void)

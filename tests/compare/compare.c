@@ -560,8 +560,9 @@ static void play_sheets(void)
         uint64_t proved = snatchblock_block(s.at, s.length, f.at, f.length, tag);
         struct sb2_block block;
         int answer = sb2_sheet_block(s, f, tag, &block);
+        /* of a refusal the answer alone */
         compare(proved, (uint64_t)answer | (uint64_t)block.part.length << 8 | (uint64_t)block.part.offset << 16 |
-                            (uint64_t)!block.in_service << 32);
+                            (uint64_t)(answer == 0 && !block.in_service) << 32);
         came_up(BLOCK, (uint64_t)answer);
         if (answer == SB2_SERVED)
             other[block.in_service ? BLOCK_SERVICE : block.part.offset ? BLOCK_FACTORY : BLOCK_NEITHER]++;
