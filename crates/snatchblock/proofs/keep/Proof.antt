@@ -24,7 +24,7 @@ returns-3 c =
     let start = c .before .before .before .before .before .before .before in
     let one = ne-eqb _ _ (c .before .before .before .before .before .if1 .left) in
     let two = ne-eqb _ _ (c .before .before .before .before .if2 .left) in
-    rw (one, two) (c .before .before .store .ensures .1 ∙ stored (start .args .state) (start .args .area .now) (start .pre .0) (start .pre .1 (rw (one, two))))
+    rw (one, two) (c .before .before .store .ensures .1 .0 ∙ stored (start .args .state) (start .args .area .now) (start .pre .0) (start .pre .1 (rw (one, two))))
 
 pub keep-spec : {M : Type 1} → statement M
 keep-spec = tie.close (tie.spec returns returns-2 store-requires same-length returns-3)

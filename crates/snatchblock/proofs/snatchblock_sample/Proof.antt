@@ -22,7 +22,7 @@ same-length c = search needs
 returns : tie.Need-returns
 returns c =
     let a = c .before .before .before .before .before .before .args in
-    sample-none (a .area .now) (sampleWith (a .voltage) (a .current) (a .temperature) (a .counter)) (a .room .now) (c .before .before .load .ensures) (c .if1 .taken)
+    sample-none (a .area .now) (sampleWith (a .voltage) (a .current) (a .temperature) (a .counter)) (a .room .now) (c .before .before .load .ensures .0) (c .if1 .taken)
 
 sample-requires : tie.Need-sample-requires
 sample-requires c κs = search needs
@@ -32,7 +32,7 @@ keep-requires c κs =
     let a = c .before .before .before .before .before .before .before .before .before .before .before .args in
     let out = c .before .before .before .sample .ensures .0 in
     let held = c .before .before .before .before .before .before .before .load in (
-      facts (a .area .now) (an-area (a .area .now) (held .ensures) (c .before .before .before .before .before .if1 .left) .0) .size,
+      facts (a .area .now) (an-area (a .area .now) (held .ensures .0) (c .before .before .before .before .before .if1 .left) .0) .size,
       λ h.
           let count = sample-count (held .result .state) (sampleWith (a .voltage) (toZ w16 (ofZ w16 (a .current))) (a .temperature) (a .counter)) (length (a .room .now)) (sym (ap (λ (q : Sampled). stays (q .answer)) out) ∙ h) in
           omega (arith, ap (λ (q : Sampled). q .state .pack .kept .count) out, count),
@@ -57,7 +57,7 @@ returns-2 : tie.Need-returns-2
 returns-2 c =
     let a = c .before .before .before .before .before .before .before .before .before .before .before .before .before .before .before .before .args in
     let out = c .before .before .before .before .before .before .before .before .sample .ensures in
-    sample-done (a .area .now) (sampleWith (a .voltage) (a .current) (a .temperature) (a .counter)) (a .room .now) (c .before .before .before .before .before .before .before .before .before .before .before .before .load .ensures) (c .before .before .before .before .before .before .before .before .before .before .if1 .left) (same-sample (a .voltage) (a .temperature) (a .counter) (c .before .before .before .before .before .before .before .before .before .before .before .before .before .before .before .before .fits .current)) (out .0) (out .1) (c .before .before .before .before .keep .ensures) (c .before .number .ensures .0) (c .pack-up .ensures)
+    sample-done (a .area .now) (sampleWith (a .voltage) (a .current) (a .temperature) (a .counter)) (a .room .now) (c .before .before .before .before .before .before .before .before .before .before .before .before .load .ensures .0) (c .before .before .before .before .before .before .before .before .before .before .if1 .left) (same-sample (a .voltage) (a .temperature) (a .counter) (c .before .before .before .before .before .before .before .before .before .before .before .before .before .before .before .before .fits .current)) (out .0) (out .1) (c .before .before .before .before .keep .ensures) (c .before .number .ensures .0) (c .pack-up .ensures)
 
 pub snatchblock-sample-spec : {M : Type 1} → statement M
 snatchblock-sample-spec = tie.close (tie.spec load-requires same-length returns sample-requires keep-requires number-requires pack-up-requires same-length-2 same-length-3 returns-2)

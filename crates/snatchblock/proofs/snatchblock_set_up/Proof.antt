@@ -37,7 +37,7 @@ returns-3 : tie.Need-returns-3
 returns-3 c =
     let a = c .before .before .before .before .before .before .before .before .before .args in
     let same = same-sample (a .voltage) (a .temperature) (a .counter) (c .before .before .before .before .before .before .before .before .before .fits .current) in
-    start-served (a .area .now) (setupWith (a .DesignCapacity) (a .full) (a .remaining) (a .DesignVoltage) (a .MaxError) (a .CycleCount) (a .ManufactureDate) (a .SerialNumber) (a .ChargingCurrent) (a .ChargingVoltage) (a .TemperatureLimit) (a .DischargeLimit)) (sampleWith (a .voltage) (a .current) (a .temperature) (a .counter)) (c .before .before .before .before .before .before .before .if1 .left) (c .before .before .before .before .before .before .set-up .ensures ∙ ap (setUpOf (setupWith (a .DesignCapacity) (a .full) (a .remaining) (a .DesignVoltage) (a .MaxError) (a .CycleCount) (a .ManufactureDate) (a .SerialNumber) (a .ChargingCurrent) (a .ChargingVoltage) (a .TemperatureLimit) (a .DischargeLimit))) same) (c .before .before .before .before .if2 .left) (c .before .before .store .ensures .1)
+    start-served (a .area .now) (setupWith (a .DesignCapacity) (a .full) (a .remaining) (a .DesignVoltage) (a .MaxError) (a .CycleCount) (a .ManufactureDate) (a .SerialNumber) (a .ChargingCurrent) (a .ChargingVoltage) (a .TemperatureLimit) (a .DischargeLimit)) (sampleWith (a .voltage) (a .current) (a .temperature) (a .counter)) (c .before .before .before .before .before .before .before .if1 .left) (c .before .before .before .before .before .before .set-up .ensures ∙ ap (setUpOf (setupWith (a .DesignCapacity) (a .full) (a .remaining) (a .DesignVoltage) (a .MaxError) (a .CycleCount) (a .ManufactureDate) (a .SerialNumber) (a .ChargingCurrent) (a .ChargingVoltage) (a .TemperatureLimit) (a .DischargeLimit))) same) (c .before .before .before .before .if2 .left) (c .before .before .store .ensures .1 .0)
 
 pub snatchblock-set-up-spec : {M : Type 1} → statement M
 snatchblock-set-up-spec = tie.close (tie.spec returns set-up-requires number-requires pack-up-requires returns-2 store-requires same-length returns-3)

@@ -9,14 +9,14 @@ load-requires : tie.Need-load-requires
 load-requires c κs = search needs
 
 returns : tie.Need-returns
-returns c = rw (no-area (c .before .before .before .before .args .area .now) (c .before .before .load .ensures) (c .if1 .taken))
+returns c = rw (no-area (c .before .before .before .before .args .area .now) (c .before .before .load .ensures .0) (c .if1 .taken))
 
 sound-requires : tie.Need-sound-requires
 sound-requires c κs = search needs
 
 returns-2 : tie.Need-returns-2
 returns-2 c =
-    let t = an-area (c .before .before .before .before .before .args .area .now) (c .before .before .before .load .ensures) (c .before .if1 .left) in
+    let t = an-area (c .before .before .before .before .before .args .area .now) (c .before .before .before .load .ensures .0) (c .before .if1 .left) in
     rw (t .0, c .sound .ensures, t .1)
 
 pub snatchblock-sound-spec : {M : Type 1} → statement M

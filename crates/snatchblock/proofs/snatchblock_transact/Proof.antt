@@ -20,7 +20,7 @@ same-length c = search needs
 returns : tie.Need-returns
 returns c =
     let a = c .before .before .before .before .before .before .before .before .before .args in
-    transact-none (a .area .now) (a .service .now) (a .factory .now) (a .read) (a .bytes .now) (a .room .now) (c .before .before .load .ensures) (c .if1 .taken)
+    transact-none (a .area .now) (a .service .now) (a .factory .now) (a .read) (a .bytes .now) (a .room .now) (c .before .before .load .ensures .0) (c .if1 .taken)
 
 transact-requires : tie.Need-transact-requires
 transact-requires c κs = search needs
@@ -30,7 +30,7 @@ keep-requires c κs =
     let a = c .before .before .before .before .before .before .before .before .before .before .before .before .before .before .args in
     let out = c .before .before .before .transact .ensures .0 in
     let held = c .before .before .before .before .before .before .before .load in (
-      facts (a .area .now) (an-area (a .area .now) (held .ensures) (c .before .before .before .before .before .if1 .left) .0) .size,
+      facts (a .area .now) (an-area (a .area .now) (held .ensures .0) (c .before .before .before .before .before .if1 .left) .0) .size,
       λ h.
           let count = transact-count (held .result .state) (a .service .now) (a .factory .now) (a .read) (a .bytes .now) (length (a .room .now)) (sym (ap (λ (q : Transacted). stays (q .answer)) out) ∙ h) in
           omega (arith, ap (λ (q : Transacted). q .state .pack .kept .count) out, count),
@@ -55,7 +55,7 @@ returns-2 : tie.Need-returns-2
 returns-2 c =
     let a = c .before .before .before .before .before .before .before .before .before .before .before .before .before .before .before .before .before .before .before .args in
     let out = c .before .before .before .before .before .before .before .before .transact .ensures in
-    transact-done (a .area .now) (a .service .now) (a .factory .now) (a .read) (a .bytes .now) (a .room .now) (c .before .before .before .before .before .before .before .before .before .before .before .before .load .ensures) (c .before .before .before .before .before .before .before .before .before .before .if1 .left) (out .0) (out .1) (c .before .before .before .before .keep .ensures) (c .before .number .ensures .0) (c .pack-up .ensures)
+    transact-done (a .area .now) (a .service .now) (a .factory .now) (a .read) (a .bytes .now) (a .room .now) (c .before .before .before .before .before .before .before .before .before .before .before .before .load .ensures .0) (c .before .before .before .before .before .before .before .before .before .before .if1 .left) (out .0) (out .1) (c .before .before .before .before .keep .ensures) (c .before .number .ensures .0) (c .pack-up .ensures)
 
 pub snatchblock-transact-spec : {M : Type 1} → statement M
 snatchblock-transact-spec = tie.close (tie.spec load-requires same-length returns transact-requires keep-requires number-requires pack-up-requires same-length-2 same-length-3 returns-2)

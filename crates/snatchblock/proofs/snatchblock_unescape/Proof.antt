@@ -12,13 +12,20 @@ unescape-requires : tie.Need-unescape-requires
 unescape-requires c κs = search needs
 
 pack-up-requires : tie.Need-pack-up-requires
-pack-up-requires c κs = ?
+pack-up-requires c κs =
+    let a = c .before .before .before .before .before .before .args in
+    let most = plain-most (a .part .now) (a .room .now) in
+    let e = c .before .before .unescape .ensures .0 in (
+      omega (arith, ap (λ (w : Wrote). w .answer) e, most .0),
+      omega (arith, ap (λ (w : Wrote). w .length) e, most .1),
+    )
 
 same-length : tie.Need-same-length
 same-length c = search needs
 
 returns : tie.Need-returns
-returns c = ?
+returns c =
+    (rw (c .pack-up .ensures, c .before .before .before .unescape .ensures .0), c .before .before .before .unescape .ensures .1)
 
 pub snatchblock-unescape-spec : {M : Type 1} → statement M
 snatchblock-unescape-spec = tie.close (tie.spec unescape-requires pack-up-requires same-length returns)
