@@ -3,18 +3,19 @@
 -- Assumes nothing.
 use mathlib.Core.Path.{_≡_, sym, ap, _∙_}
 use mathlib.Core.Bool.{true}
-use mathlib.Core.List.{List}
+use mathlib.Core.List.{List, _++_}
 use Prim.Native.Nat.{ℕ, _≤_}
 use native.Mathlib.Omega.{arith}
 use borrow.Author.Tests.{eq-eqb, le-leb}
-use lib.ListN.{length}
-use Rattle.area.specs.Area.{areaOf, stateIn, isArea, storedOf}
+use lib.ListN.{length, drop}
+use Rattle.area.specs.Area.{areaOf, settingsBytes, hostBytes, latestBytes, keptBytes, tankBytes, timersBytes, stateIn, isArea, storedOf}
 use Rattle.area.proofs.Stores.{words-count}
 use Rattle.area.specs.Fits.{Below, Fits}
 use Rattle.area.proofs.Held.{held, byte-fits, long-fits, wide-fits, words-fit}
 use Rattle.area.proofs.Stored.{read-back}
 use Rattle.pack.proofs.Soundness.{facts as sound-facts}
 use Rattle.pack.specs.Sound.{soundOf}
+use Rattle.pack.specs.declared.Pack.{Pack}
 use Rattle.pack.specs.declared.State.{State}
 
 -- the state that an area holds fits
@@ -47,3 +48,11 @@ states-tell s t f g e = sym (read-back s f) ∙ ap stateIn e ∙ read-back t g
 pub sound-goes-in : (s : State) (room : List ℕ) → soundOf s ≡ true → length room ≡ 186 → storedOf s room ≡ 0
 sound-goes-in s room h n =
     let most : s .pack .kept .count ≤ 255 = omega (arith, sound-facts s h .most) in rw (eq-eqb _ _ n, le-leb _ _ most)
+
+-- the error code is the area's first byte: where a call leaves the pack as it was, every other byte of the area stays
+pub error-first : (s t : State) → s .pack ≡ t .pack → drop 1 (areaOf s) ≡ drop 1 (areaOf t)
+unfolding areaOf
+error-first s t e =
+    ap
+    (λ (p : Pack). settingsBytes (p .settings) ++ hostBytes (p .host) ++ latestBytes (p .latest) ++ keptBytes (p .kept) ++ tankBytes (p .tank) ++ timersBytes (p .timers))
+    e
