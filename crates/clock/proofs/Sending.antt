@@ -15,11 +15,11 @@ pub no-alarm : (p : Pack) → alarmGoes p ≡ false → alarmsOf p ≡ []
 unfolding alarmsOf
 no-alarm p h = simp h
 
-pub host-alarm : (p : Pack) → alarmGoes p ≡ true → chargerAlarm p ≡ false → alarmsOf p ≡ messageOf 16 22 (alarmWord p)
+pub host-alarm : (p : Pack) → alarmGoes p ≡ true → chargerAlarm p ≡ false → alarmsOf p ≡ messageOf 0x10 0x16 (alarmWord p)
 unfolding alarmsOf
 host-alarm p h n = simp (h, n)
 
-pub both-alarms : (p : Pack) → alarmGoes p ≡ true → chargerAlarm p ≡ true → alarmsOf p ≡ messageOf 16 22 (alarmWord p) ++ messageOf 18 22 (alarmWord p)
+pub both-alarms : (p : Pack) → alarmGoes p ≡ true → chargerAlarm p ≡ true → alarmsOf p ≡ messageOf 0x10 0x16 (alarmWord p) ++ messageOf 0x12 0x16 (alarmWord p)
 unfolding alarmsOf
 both-alarms p h n = simp (h, n)
 
@@ -28,16 +28,16 @@ unfolding chargerWordsOf
 no-words p h = simp h
 
 pub both-words : (p : Pack) → chargerGoes p ≡ true
-    → chargerWordsOf p ≡ messageOf 18 20 (chargingCurrent p) ++ messageOf 18 21 (p .settings .ChargingVoltage)
+    → chargerWordsOf p ≡ messageOf 0x12 0x14 (chargingCurrent p) ++ messageOf 0x12 0x15 (p .settings .ChargingVoltage)
 unfolding chargerWordsOf
 both-words p h = simp h
 
-alarm-bytes : (a b : Bool) (w : ℕ) → length (cond a (messageOf 16 22 w ++ cond b (messageOf 18 22 w) []) []) ≡ 4 * cond a (1 + cond b 1 0) 0
+alarm-bytes : (a b : Bool) (w : ℕ) → length (cond a (messageOf 0x10 0x16 w ++ cond b (messageOf 0x12 0x16 w) []) []) ≡ 4 * cond a (1 + cond b 1 0) 0
 alarm-bytes true true w = refl
 alarm-bytes true false w = refl
 alarm-bytes false b w = refl
 
-word-bytes : (a : Bool) (v w : ℕ) → length (cond a (messageOf 18 20 v ++ messageOf 18 21 w) []) ≡ 4 * cond a 2 0
+word-bytes : (a : Bool) (v w : ℕ) → length (cond a (messageOf 0x12 0x14 v ++ messageOf 0x12 0x15 w) []) ≡ 4 * cond a 2 0
 word-bytes true v w = refl
 word-bytes false v w = refl
 

@@ -26,11 +26,11 @@ chargerGoes p = not (p .host .ChargerMode) && leb 30000 (p .timers .charger)
 
 -- AlarmWarning `10 16`, and `12 16` if bit 15, 14 or 12 is set
 unfoldable pub alarmsOf : Pack → List ℕ
-alarmsOf p = cond (alarmGoes p) (messageOf 16 22 (alarmWord p) ++ cond (chargerAlarm p) (messageOf 18 22 (alarmWord p)) []) []
+alarmsOf p = cond (alarmGoes p) (messageOf 0x10 0x16 (alarmWord p) ++ cond (chargerAlarm p) (messageOf 0x12 0x16 (alarmWord p)) []) []
 
 -- the `12 14` and `12 15` words
 unfoldable pub chargerWordsOf : Pack → List ℕ
-chargerWordsOf p = cond (chargerGoes p) (messageOf 18 20 (chargingCurrent p) ++ messageOf 18 21 (p .settings .ChargingVoltage)) []
+chargerWordsOf p = cond (chargerGoes p) (messageOf 0x12 0x14 (chargingCurrent p) ++ messageOf 0x12 0x15 (p .settings .ChargingVoltage)) []
 
 -- messages, in order
 abbrev pub broadcastOf : Pack → List ℕ

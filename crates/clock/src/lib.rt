@@ -198,9 +198,9 @@ fn send_alarms(p: Pack, goes: bool, room: &mut [u8]) -> usize
         return 0;
     }
     let word = gauge::alarm_word(p);
-    let next = frame::put_message(room, 0, 16, 22, word);
+    let next = frame::put_message(room, 0, 0x10, 0x16, word);
     if gauge::charger_alarm(p) {
-        return frame::put_message(room, next, 18, 22, word);
+        return frame::put_message(room, next, 0x12, 0x16, word);
     }
     next
 }
@@ -213,8 +213,8 @@ fn send_charger_words(p: Pack, goes: bool, room: &mut [u8], at: usize) -> usize
     if !goes {
         return at;
     }
-    let next = frame::put_message(room, at, 18, 20, gauge::charging_current(p));
-    frame::put_message(room, next, 18, 21, p.settings.ChargingVoltage)
+    let next = frame::put_message(room, at, 0x12, 0x14, gauge::charging_current(p));
+    frame::put_message(room, next, 0x12, 0x15, p.settings.ChargingVoltage)
 }
 
 fn zero_if(goes: bool, timer: u32) -> u32

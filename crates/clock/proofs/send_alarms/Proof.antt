@@ -45,14 +45,14 @@ returns-2 c =
     let w = c8 .before .before .alarm-word .result in
     let h : alarmGoes p ≡ true = sym (start .pre .1) ∙ not-false _ (c11 .if1 .left) in
     let n : chargerAlarm p ≡ true = sym (c .before .before .before .before .before .charger-alarm .ensures) ∙ c .before .before .before .before .if2 .taken in
-    let e : alarmsOf p ≡ messageOf 16 22 w ++ messageOf 18 22 w =
-    both-alarms p h n ∙ ap (λ v. messageOf 16 22 v ++ messageOf 18 22 v) (sym (c8 .before .before .alarm-word .ensures)) in
+    let e : alarmsOf p ≡ messageOf 0x10 0x16 w ++ messageOf 0x12 0x16 w =
+    both-alarms p h n ∙ ap (λ v. messageOf 0x10 0x16 v ++ messageOf 0x12 0x16 v) (sym (c8 .before .before .alarm-word .ensures)) in
     let room = now (start .args .room) in (
       c .before .before .put-message2 .ensures .0 ∙ ap (λ k. k + 4) (c8 .put-message .ensures .0) ∙ sym (ap length e),
       c .before .before .put-message2 .ensures .1
-          ∙ ap (λ r. sets r (c8 .put-message .result) (messageOf 18 22 w)) (c8 .put-message .ensures .1)
-          ∙ ap (λ k. sets (sets room 0 (messageOf 16 22 w)) k (messageOf 18 22 w)) (c8 .put-message .ensures .0)
-          ∙ in-a-row room 0 (messageOf 16 22 w) (messageOf 18 22 w) ∙ ap (sets room 0) (sym e),
+          ∙ ap (λ r. sets r (c8 .put-message .result) (messageOf 0x12 0x16 w)) (c8 .put-message .ensures .1)
+          ∙ ap (λ k. sets (sets room 0 (messageOf 0x10 0x16 w)) k (messageOf 0x12 0x16 w)) (c8 .put-message .ensures .0)
+          ∙ in-a-row room 0 (messageOf 0x10 0x16 w) (messageOf 0x12 0x16 w) ∙ ap (sets room 0) (sym e),
     )
 
 same-length-2 : tie.Need-same-length-2
@@ -66,7 +66,7 @@ returns-3 c =
     let p = start .args .p in
     let h : alarmGoes p ≡ true = sym (start .pre .1) ∙ not-false _ (c7 .if1 .left) in
     let n : chargerAlarm p ≡ false = sym (c .before .charger-alarm .ensures) ∙ c .if2 .left in
-    let e = host-alarm p h n ∙ ap (messageOf 16 22) (sym (c4 .before .before .alarm-word .ensures)) in (
+    let e = host-alarm p h n ∙ ap (messageOf 0x10 0x16) (sym (c4 .before .before .alarm-word .ensures)) in (
       c4 .put-message .ensures .0 ∙ sym (ap length e),
       c4 .put-message .ensures .1 ∙ ap (sets (now (start .args .room)) 0) (sym e),
     )

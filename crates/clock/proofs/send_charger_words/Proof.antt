@@ -41,16 +41,16 @@ returns-2 c =
     let p = start .args .p in
     let at = start .args .at in
     let current = c6 .before .charging-current .result in
-    let last = messageOf 18 21 (p .settings .ChargingVoltage) in
+    let last = messageOf 0x12 0x15 (p .settings .ChargingVoltage) in
     let h : chargerGoes p ≡ true = sym (start .pre .0) ∙ not-false _ (c9 .if1 .left) in
-    let e : chargerWordsOf p ≡ messageOf 18 20 current ++ last =
-    both-words p h ∙ ap (λ v. messageOf 18 20 v ++ last) (sym (c6 .before .charging-current .ensures)) in
+    let e : chargerWordsOf p ≡ messageOf 0x12 0x14 current ++ last =
+    both-words p h ∙ ap (λ v. messageOf 0x12 0x14 v ++ last) (sym (c6 .before .charging-current .ensures)) in
     let room = now (start .args .room) in (
       c .before .before .put-message2 .ensures .0 ∙ ap (λ k. k + 4) (c6 .put-message .ensures .0) ∙ omega (arith, ap length e),
       c .before .before .put-message2 .ensures .1
           ∙ ap (λ r. sets r (c6 .put-message .result) last) (c6 .put-message .ensures .1)
-          ∙ ap (λ k. sets (sets room at (messageOf 18 20 current)) k last) (c6 .put-message .ensures .0)
-          ∙ in-a-row room at (messageOf 18 20 current) last ∙ ap (sets room at) (sym e),
+          ∙ ap (λ k. sets (sets room at (messageOf 0x12 0x14 current)) k last) (c6 .put-message .ensures .0)
+          ∙ in-a-row room at (messageOf 0x12 0x14 current) last ∙ ap (sets room at) (sym e),
     )
 
 pub send-charger-words-spec : {M : Type 1} → statement M
