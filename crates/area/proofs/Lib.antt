@@ -1,6 +1,4 @@
-pub mod Stores
 pub mod Numbers
+pub mod Stores
 pub mod Parts
-pub mod Tests
-pub mod Stored
-pub mod Held
+pub mod Whole

@@ -1,86 +1,158 @@
--- The parts of an area: how long each is, and that they stand in a row.
+-- Each part by itself: what is stored is read back, and what is read is stored again.
 -- Assumes nothing.
 use mathlib.Core.Path.{_≡_, refl, sym, ap, _∙_}
-use mathlib.Core.List.{List, [], _∷_, _++_}
-use Prim.Native.Nat.{ℕ, _+_, _*_, _%_, _≤_}
+use mathlib.Core.Bool.{Bool, true, false, and-eq-true-iff}
+use mathlib.Core.List.{List, [], _∷_, _++_, append-assoc}
+use Prim.Native.Nat.{ℕ, zero, suc, _%_, _<_}
 use native.Mathlib.Omega.{arith}
-use lib.ListN.{length, set, length-append}
-use lib.Seq.{sets}
-use Rattle.area.specs.Area.{bytesOf, wordsOf, settingsBytes, hostBytes, latestBytes, keptBytes, tankBytes, timersBytes, areaOf}
-use Rattle.area.proofs.Stores.{in-a-row}
-use Rattle.pack.specs.declared.Kept.{Kept}
-use Rattle.pack.specs.declared.State.{State}
+use borrow.Author.Tests.{eqb-true, eqb-false, leb-true}
+use lib.Dec.{eqb, leb}
+use lib.ListN.{length, getD, drop, replicate, length-append}
+use lib.Seq.{sets, take-at, getD-append-seam}
+use Rattle.rooms.specs.Rooms.{Bytes}
+use Rattle.rooms.proofs.Rooms.{then, whole}
+use Rattle.pack.specs.Fits.{SettingsFit, HostFit, LatestFit, TankFit, TimersFit}
+use Rattle.recent.specs.Fits.{Below, RecentFit}
+use Rattle.area.specs.Numbers.{numberBytes, numbersBytes, numberAt, numbersAt, bytesTaken, Within, flagOf, flagged, flags}
+use Rattle.area.specs.Parts.{settingsWidths, settingsNumbers, settingsFrom, settingsBytes, settingsIn, hostWidths, hostNumbers, hostFrom, hostBytes, hostIn, isHost, latestWidths, latestNumbers, latestFrom, latestBytes, latestIn, tankWidths, tankNumbers, tankFrom, tankBytes, tankIn, isTank, timersWidths, timersNumbers, timersFrom, timersBytes, timersIn, recentWidths, recentNumbers, recentFrom, recentBytes, recentIn}
+use Rattle.area.proofs.Numbers.{numbers-back, all-again}
+use Rattle.area.proofs.Stores.{bytes-length}
+use Rattle.pack.specs.declared.Host.{Host}
+use Rattle.recent.specs.declared.Recent.{Recent}
+use Rattle.pack.specs.declared.Latest.{Latest}
+use Rattle.pack.specs.declared.Settings.{Settings}
+use Rattle.pack.specs.declared.Tank.{Tank}
+use Rattle.pack.specs.declared.Timers.{Timers}
 
--- words take two bytes each
-pub words-length : (ws : List ℕ) → length (wordsOf ws) ≡ 2 * length ws
-words-length [] = refl
-words-length (w ∷ ws) = omega (arith, words-length ws)
+-- ---- flags
 
--- the kept samples take 121 bytes
-pub kept-length : (k : Kept) → length (k .currents) ≡ 60 → length (keptBytes k) ≡ 121
-kept-length k n = omega (arith, n, words-length (k .currents), length-append (wordsOf (k .currents)) (bytesOf 1 (k .count)))
+flag-back : (b : Bool) → flagged (flagOf b) ≡ b
+flag-back true = refl
+flag-back false = refl
 
--- the words, then the count
-pub kept-laid : (area : List ℕ) (k : Kept) → length (k .currents) ≡ 60 → k .count ≤ 255
-    → set (sets area 40 (wordsOf (k .currents))) 160 (k .count) ≡ sets area 40 (keptBytes k)
-kept-laid area k n small =
-    let ws : List ℕ = wordsOf (k .currents) in
-    let end : 160 ≡ 40 + length ws = omega (arith, n, words-length (k .currents)) in
-    let byte : k .count ≡ k .count % 256 = omega arith in
-    ap (λ (i : ℕ). set (sets area 40 ws) i (k .count)) end
-    ∙ ap (λ (b : ℕ). set (sets area 40 ws) (40 + length ws) b) byte
-    ∙ in-a-row area 40 ws (bytesOf 1 (k .count))
+-- a flag is its own byte
+pub flag-byte : (b : Bool) → flagOf b ≡ flagOf b % 256
+flag-byte true = refl
+flag-byte false = refl
 
--- one part more from the front on
-then : (room us vs : List ℕ) {before after : List ℕ} {at : ℕ} → before ≡ sets room 0 us → at ≡ length us → after ≡ sets before at vs → after ≡ sets room 0 (us ++ vs)
-then room us vs {before} {after} {at} e n h =
-    let z : at ≡ 0 + length us = omega arith in
-    h ∙ ap (λ (l : List ℕ). sets l at vs) e ∙ ap (λ (i : ℕ). sets (sets room 0 us) i vs) z ∙ in-a-row room 0 us vs
+is-flag : (b : Bool) → leb (flagOf b) 1 ≡ true
+is-flag true = refl
+is-flag false = refl
 
--- what stands before the kept samples
-abbrev pub front : State → List ℕ
-front s = bytesOf 1 (s .error) ++ settingsBytes (s .pack .settings) ++ hostBytes (s .pack .host) ++ latestBytes (s .pack .latest)
+flag-again : (n : ℕ) → leb n 1 ≡ true → flagOf (flagged n) ≡ n
+flag-again n h = go (eqb n 1) refl
+  where
+    go : (t : Bool) → eqb n 1 ≡ t → flagOf (flagged n) ≡ n
+    go true e = rw e (sym (eqb-true n 1 e))
+    go false e = let z : n ≡ 0 = omega (arith, eqb-false n 1 e, leb-true n 1 h) in rw e (sym z)
 
--- the tank stands at 161
-pub upTo-tank : (s : State) → length (keptBytes (s .pack .kept)) ≡ 121 → length (front s ++ keptBytes (s .pack .kept)) ≡ 161
-upTo-tank s k =
-    let n : length (front s) ≡ 40 = refl in
-    omega (arith, n, k, length-append (front s) (keptBytes (s .pack .kept)))
+flag-within : (b : Bool) → flagOf b < 256
+flag-within true = omega arith
+flag-within false = omega arith
 
--- the timers stand at 174
-upTo-timers : (s : State) → length (keptBytes (s .pack .kept)) ≡ 121 → length (front s ++ keptBytes (s .pack .kept) ++ tankBytes (s .pack .tank)) ≡ 174
-upTo-timers s k =
-    let n : length (tankBytes (s .pack .tank)) ≡ 13 = refl in
-    omega (arith, n, upTo-tank s k, length-append (front s ++ keptBytes (s .pack .kept)) (tankBytes (s .pack .tank)))
+-- ---- stored, then read
 
--- an area has 186 bytes
-pub area-length : (s : State) → length (keptBytes (s .pack .kept)) ≡ 121 → length (areaOf s) ≡ 186
-unfolding areaOf
-area-length s k =
-    let n : length (timersBytes (s .pack .timers)) ≡ 12 = refl in
-    omega (arith, n, upTo-timers s k, length-append (front s ++ keptBytes (s .pack .kept) ++ tankBytes (s .pack .tank)) (timersBytes (s .pack .timers)))
+pub settings-back : (s : Settings) → SettingsFit s → settingsIn (settingsBytes s) ≡ s
+settings-back s f =
+    ap settingsFrom
+    (numbers-back settingsWidths (settingsNumbers s) (settingsBytes s) 0
+    (f .DesignCapacity, (f .DesignVoltage, (f .MaxError, (f .ManufactureDate, (f .SerialNumber, (f .ChargingCurrent, (f .ChargingVoltage, (f .TemperatureLimit, (f .DischargeLimit, tt)))))))))
+    refl)
 
--- the parts, each at its place, are the area
-pub state-laid : (room : List ℕ) (s : State) {a b c d e f g : List ℕ} → length (keptBytes (s .pack .kept)) ≡ 121
-    → a ≡ sets room 0 (bytesOf 1 (s .error))
-    → b ≡ sets a 1 (settingsBytes (s .pack .settings))
-    → c ≡ sets b 19 (hostBytes (s .pack .host))
-    → d ≡ sets c 30 (latestBytes (s .pack .latest))
-    → e ≡ sets d 40 (keptBytes (s .pack .kept))
-    → f ≡ sets e 161 (tankBytes (s .pack .tank))
-    → g ≡ sets f 174 (timersBytes (s .pack .timers))
-    → g ≡ sets room 0 (areaOf s)
-unfolding areaOf
-state-laid room s {a} {b} {c} {d} {e} {f} {g} k ha hb hc hd he hf hg =
-    let E : List ℕ = bytesOf 1 (s .error) in
-    let S : List ℕ = settingsBytes (s .pack .settings) in
-    let H : List ℕ = hostBytes (s .pack .host) in
-    let L : List ℕ = latestBytes (s .pack .latest) in
-    let K : List ℕ = keptBytes (s .pack .kept) in
-    let T : List ℕ = tankBytes (s .pack .tank) in
-    let kb : b ≡ sets room 0 (E ++ S) = then room E S ha refl hb in
-    let kc : c ≡ sets room 0 (E ++ S ++ H) = then room (E ++ S) H kb refl hc in
-    let kd : d ≡ sets room 0 (E ++ S ++ H ++ L) = then room (E ++ S ++ H) L kc refl hd in
-    let ke : e ≡ sets room 0 (E ++ S ++ H ++ L ++ K) = then room (E ++ S ++ H ++ L) K kd refl he in
-    let kf : f ≡ sets room 0 (E ++ S ++ H ++ L ++ K ++ T) = then room (E ++ S ++ H ++ L ++ K) T ke (sym (upTo-tank s k)) hf in
-    then room (E ++ S ++ H ++ L ++ K ++ T) (timersBytes (s .pack .timers)) kf (sym (upTo-timers s k)) hg
+host-numbers : (h : Host) → HostFit h → numbersAt hostWidths (hostBytes h) 0 ≡ hostNumbers h
+host-numbers h f =
+    numbers-back hostWidths (hostNumbers h) (hostBytes h) 0
+    (f .ManufacturerAccess, (f .RemainingCapacityAlarm, (f .RemainingTimeAlarm, (f .AtRate, (flag-within (h .AlarmMode), (flag-within (h .ChargerMode), (flag-within (h .CapacityMode), tt)))))))
+    refl
+
+pub host-back : (h : Host) → HostFit h → hostIn (hostBytes h) ≡ h
+host-back h f = ap hostFrom (host-numbers h f) ∙ rw (flag-back (h .AlarmMode), flag-back (h .ChargerMode), flag-back (h .CapacityMode))
+
+pub host-is : (h : Host) → HostFit h → isHost (hostBytes h) ≡ true
+host-is h f =
+    ap (λ (ns : List ℕ). flags (drop 4 ns)) (host-numbers h f) ∙ rw (is-flag (h .AlarmMode), is-flag (h .ChargerMode), is-flag (h .CapacityMode))
+
+pub latest-back : (l : Latest) → LatestFit l → latestIn (latestBytes l) ≡ l
+latest-back l f =
+    ap latestFrom (numbers-back latestWidths (latestNumbers l) (latestBytes l) 0 (f .voltage, (f .current, (f .temperature, (f .counter, tt)))) refl)
+
+tank-numbers : (t : Tank) → TankFit t → numbersAt tankWidths (tankBytes t) 0 ≡ tankNumbers t
+tank-numbers t f =
+    numbers-back tankWidths (tankNumbers t) (tankBytes t) 0 (f .charge, (f .full, (f .CycleCount, (flag-within (t .FullyDischarged), tt)))) refl
+
+pub tank-back : (t : Tank) → TankFit t → tankIn (tankBytes t) ≡ t
+tank-back t f = ap tankFrom (tank-numbers t f) ∙ rw (flag-back (t .FullyDischarged))
+
+pub tank-is : (t : Tank) → TankFit t → isTank (tankBytes t) ≡ true
+tank-is t f = ap (λ (ns : List ℕ). flags (drop 3 ns)) (tank-numbers t f) ∙ rw (is-flag (t .FullyDischarged))
+
+pub timers-back : (t : Timers) → TimersFit t → timersIn (timersBytes t) ≡ t
+timers-back t f = ap timersFrom (numbers-back timersWidths (timersNumbers t) (timersBytes t) 0 (f .hold, (f .alarm, (f .charger, tt))) refl)
+
+-- ---- the recent currents
+
+numbers-bytes-length : (widths values : List ℕ) → length widths ≡ length values → length (numbersBytes widths values) ≡ bytesTaken widths
+numbers-bytes-length [] values e = refl
+numbers-bytes-length (n ∷ widths) [] e = absurd (omega (arith, e))
+numbers-bytes-length (n ∷ widths) (v ∷ values) e =
+    omega (arith, length-append (numberBytes n v) (numbersBytes widths values), bytes-length n v, numbers-bytes-length widths values (omega (arith, e)))
+
+numbers-bytes-append : (ns vs ms ws : List ℕ) → length ns ≡ length vs → numbersBytes (ns ++ ms) (vs ++ ws) ≡ numbersBytes ns vs ++ numbersBytes ms ws
+numbers-bytes-append [] [] ms ws e = refl
+numbers-bytes-append [] (v ∷ vs) ms ws e = absurd (omega (arith, e))
+numbers-bytes-append (n ∷ ns) [] ms ws e = absurd (omega (arith, e))
+numbers-bytes-append (n ∷ ns) (v ∷ vs) ms ws e = rw (numbers-bytes-append ns vs ms ws (omega (arith, e))) (sym (append-assoc (numberBytes n v) (numbersBytes ns vs) (numbersBytes ms ws)))
+
+words-within : (n k : ℕ) (ws : List ℕ) → length ws ≡ n → Below 65536 ws → k < 256 → Within (replicate n 2 ++ 1 ∷ []) (ws ++ k ∷ [])
+words-within zero k [] e f h = (h, tt)
+words-within zero k (w ∷ ws) e f h = absurd (omega (arith, e))
+words-within (suc n) k [] e f h = absurd (omega (arith, e))
+words-within (suc n) k (w ∷ ws) e f h = (f .0, words-within n k ws (omega (arith, e)) (f .1) h)
+
+module _ (r : Recent) where
+  pub recent-length : length (r .currents) ≡ 60 → length (recentBytes r) ≡ bytesTaken recentWidths
+  unfolding recentBytes
+  recent-length n = numbers-bytes-length recentWidths (recentNumbers r) (omega (arith, n, length-append (r .currents) (r .count ∷ [])))
+
+  pub recent-back : RecentFit r → r .count < 256 → recentIn (recentBytes r) ≡ r
+  unfolding recentIn recentBytes
+  recent-back f small =
+      let count : getD (recentNumbers r) 60 0 ≡ r .count = rw (f .sixty) at (getD-append-seam (r .currents) (r .count) [] 0) in
+      ap recentFrom (numbers-back recentWidths (recentNumbers r) (numbersBytes recentWidths (recentNumbers r)) 0 (words-within 60 (r .count) (r .currents) (f .sixty) (f .currents) small) refl)
+      ∙ rw (take-at (r .currents) (r .count ∷ []) 60 (f .sixty), count)
+
+  -- the words, then the count
+  pub recent-laid : (part : List ℕ) → length part ≡ bytesTaken recentWidths → length (r .currents) ≡ 60
+      → sets (sets part 0 (numbersBytes (replicate (length (r .currents)) 2) (r .currents))) 120 (numberBytes 1 (r .count)) ≡ recentBytes r
+  unfolding recentBytes
+  recent-laid part size n =
+      let ws : List ℕ = numbersBytes (replicate 60 2) (r .currents) in
+      let k : length ws ≡ 120 = numbers-bytes-length (replicate 60 2) (r .currents) (sym n) in
+      let all : numbersBytes recentWidths (recentNumbers r) ≡ ws ++ numberBytes 1 (r .count) = numbers-bytes-append (replicate 60 2) (r .currents) (1 ∷ []) (r .count ∷ []) (sym n) in
+      rw (n, all) (then part 0 120 ws (numberBytes 1 (r .count)) refl (omega arith) ∙ whole part (ws ++ numberBytes 1 (r .count)) (omega (arith, length-append ws (numberBytes 1 (r .count)))))
+
+-- ---- read, then stored
+
+module _ (part : List ℕ) (b : Bytes part) where
+  pub settings-again : length part ≡ bytesTaken settingsWidths → settingsBytes (settingsIn part) ≡ part
+  settings-again n = all-again part b settingsWidths n
+
+  pub host-again : length part ≡ bytesTaken hostWidths → isHost part ≡ true → hostBytes (hostIn part) ≡ part
+  host-again n is =
+      let f = and-eq-true-iff _ _ .0 is in
+      let g = and-eq-true-iff _ _ .0 (f .1) in
+      let h = and-eq-true-iff _ _ .0 (g .1) in
+      rw (flag-again (numberAt 1 part 8) (f .0), flag-again (numberAt 1 part 9) (g .0), flag-again (numberAt 1 part 10) (h .0)) (all-again part b hostWidths n)
+
+  pub latest-again : length part ≡ bytesTaken latestWidths → latestBytes (latestIn part) ≡ part
+  latest-again n = all-again part b latestWidths n
+
+  pub tank-again : length part ≡ bytesTaken tankWidths → isTank part ≡ true → tankBytes (tankIn part) ≡ part
+  tank-again n is = rw (flag-again (numberAt 1 part 12) (and-eq-true-iff _ _ .0 is .0)) (all-again part b tankWidths n)
+
+  pub timers-again : length part ≡ bytesTaken timersWidths → timersBytes (timersIn part) ≡ part
+  timers-again n = all-again part b timersWidths n
+
+  pub recent-again : length part ≡ bytesTaken recentWidths → recentBytes (recentIn part) ≡ part
+  unfolding recentBytes recentIn
+  recent-again n = all-again part b recentWidths n

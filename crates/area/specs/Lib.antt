@@ -1,2 +1,3 @@
+pub mod Numbers
+pub mod Parts
 pub mod Area
-pub mod Fits

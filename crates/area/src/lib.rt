@@ -1,18 +1,35 @@
-// The state in a lent area of bytes: stored, tested and loaded.
+// The state in a lent area of bytes: stored, tested and loaded, part by part.
 ghost use mathlib.Core.Path.{_≡_};
-ghost use Prim.Native.Nat.{_+_, _*_, _≤_, _<_};
-ghost use lib.ListN.{length};
+ghost use Prim.Native.Nat.{_+_, _*_, _^_, _≤_, _<_};
+ghost use lib.ListN.{length, replicate};
 ghost use lib.Seq.{sets};
-ghost use Rattle.area.specs.Fits.{Below, Fits};
-ghost use Rattle.area.specs.Area.{bytesOf, wordsOf, flagOf, settingsWords, hostWords, latestWords, tankWords, settingsBytes, hostBytes, latestBytes, keptBytes, tankBytes, timersBytes, areaOf, numberAt, wordsAt, settingsIn, hostIn, latestIn, keptIn, tankIn, timersIn, stateIn, isArea, loaded, loadedOf, storedOf, roomAfter};
+ghost use Rattle.recent.specs.Fits.{Below, RecentFit};
+ghost use Rattle.area.specs.Numbers.{numberBytes, numbersBytes, numberAt, numbersAt, bytesTaken, flagOf};
+ghost use Rattle.area.specs.Parts.{settingsWidths, hostWidths, latestWidths, tankWidths, timersWidths, recentWidths, settingsBytes, hostBytes, latestBytes, tankBytes, timersBytes, recentBytes, settingsIn, hostIn, latestIn, tankIn, timersIn, recentIn, isHost, isTank};
+ghost use Rattle.area.specs.Area.{areaLength, areaOf, stateIn, isArea, loaded, loadedOf, storedOf, storedRoom};
 use pack::Host;
-use pack::Kept;
 use pack::Latest;
 use pack::Pack;
 use pack::Settings;
 use pack::State;
 use pack::Tank;
 use pack::Timers;
+use recent::Recent;
+
+// Where each part starts, and the bytes that an area has.
+const SETTINGS: usize = 1;
+
+const HOST: usize = SETTINGS + 18;
+
+const LATEST: usize = HOST + 11;
+
+const TANK: usize = LATEST + 10;
+
+const TIMERS: usize = TANK + 13;
+
+const RECENT: usize = TIMERS + 12;
+
+pub const LENGTH: usize = RECENT + 121;
 
 // What an area holds.
 pub struct Loaded {
@@ -21,31 +38,28 @@ pub struct Loaded {
 }
 
 // A number in n bytes from a place on.
-fn put_number(area: &mut [u8], at: usize, n: usize, value: u64)
-    requires { ⌜ at + n ≤ length (now area) ⌝ }
-    ensures { λ _. ⌜ now (area .exit) ≡ sets (now (area .entry)) at (bytesOf n value) ⌝ }
+fn put_number(part: &mut [u8], at: usize, n: usize, value: u64)
+    requires { ⌜ at + n ≤ length (now part) ⌝ }
+    ensures { λ _. ⌜ now (part .exit) ≡ sets (now (part .entry)) at (numberBytes n value) ⌝ }
 {
     let mut i = 0;
     let mut left = value;
     while i < n {
-        area[at + i] = (left % 256) as u8;
+        part[at + i] = (left % 256) as u8;
         left = left / 256;
         i += 1;
     }
 }
 
 // Words from a place on.
-fn put_words(area: &mut [u8], at: usize, words: &[u16])
-    requires { ⌜ at + 2 * length (now words) ≤ length (now area) ⌝ }
-    ensures memory { λ _. ⌜ now (area .exit) ≡ sets (now (area .entry)) at (wordsOf (now (words .entry))) ⌝ }
-    ensures small { λ _. ⌜ Below 65536 (now (words .entry)) ⌝ }
+fn put_words(part: &mut [u8], at: usize, words: &[u16])
+    requires { ⌜ at + 2 * length (now words) ≤ length (now part) ⌝ }
+    ensures memory { λ _. ⌜ now (part .exit) ≡ sets (now (part .entry)) at (numbersBytes (replicate (length (now (words .entry))) 2) (now (words .entry))) ⌝ }
+    ensures fit { λ _. ⌜ Below 65536 (now (words .entry)) ⌝ }
 {
     let mut i = 0;
     while i < words.len() {
-        let w = words[i];
-        let p = at + 2 * i;
-        area[p] = words::low(w);
-        area[p + 1] = words::high(w);
+        put_number(part, at + 2 * i, 2, words[i] as u64);
         i += 1;
     }
 }
@@ -57,15 +71,13 @@ fn flag(b: bool) -> u8
     if b { 1 } else { 0 }
 }
 
-// Each part at its place in the area.
-fn put_settings(area: &mut [u8], s: Settings)
-    requires { ⌜ 186 ≤ length (now area) ⌝ }
-    ensures memory { λ _. ⌜ now (area .exit) ≡ sets (now (area .entry)) 1 (settingsBytes s) ⌝ }
-    ensures small { λ _. ⌜ Below 65536 (settingsWords s) ⌝ }
+fn put_settings(part: &mut [u8], s: Settings)
+    requires { ⌜ length (now part) ≡ bytesTaken settingsWidths ⌝ }
+    ensures { λ _. ⌜ now (part .exit) ≡ settingsBytes s ⌝ }
 {
     put_words(
-        area,
-        1,
+        part,
+        0,
         &[
             s.DesignCapacity,
             s.DesignVoltage,
@@ -80,14 +92,13 @@ fn put_settings(area: &mut [u8], s: Settings)
     );
 }
 
-fn put_host(area: &mut [u8], h: Host)
-    requires { ⌜ 186 ≤ length (now area) ⌝ }
-    ensures memory { λ _. ⌜ now (area .exit) ≡ sets (now (area .entry)) 19 (hostBytes h) ⌝ }
-    ensures small { λ _. ⌜ Below 65536 (hostWords h) ⌝ }
+fn put_host(part: &mut [u8], h: Host)
+    requires { ⌜ length (now part) ≡ bytesTaken hostWidths ⌝ }
+    ensures { λ _. ⌜ now (part .exit) ≡ hostBytes h ⌝ }
 {
     put_words(
-        area,
-        19,
+        part,
+        0,
         &[
             h.ManufacturerAccess,
             h.RemainingCapacityAlarm,
@@ -95,203 +106,222 @@ fn put_host(area: &mut [u8], h: Host)
             h.AtRate,
         ],
     );
-    area[27] = flag(h.AlarmMode);
-    area[28] = flag(h.ChargerMode);
-    area[29] = flag(h.CapacityMode);
+    part[8] = flag(h.AlarmMode);
+    part[9] = flag(h.ChargerMode);
+    part[10] = flag(h.CapacityMode);
 }
 
-fn put_latest(area: &mut [u8], l: Latest)
-    requires { ⌜ 186 ≤ length (now area) ⌝ }
-    ensures memory { λ _. ⌜ now (area .exit) ≡ sets (now (area .entry)) 30 (latestBytes l) ⌝ }
-    ensures small { λ _. ⌜ Below 65536 (latestWords l) ⌝ }
+fn put_latest(part: &mut [u8], l: Latest)
+    requires { ⌜ length (now part) ≡ bytesTaken latestWidths ⌝ }
+    ensures { λ _. ⌜ now (part .exit) ≡ latestBytes l ⌝ }
 {
-    put_words(area, 30, &[l.voltage, l.current, l.temperature]);
-    put_number(area, 36, 4, l.counter as u64);
+    put_words(part, 0, &[l.voltage, l.current, l.temperature]);
+    put_number(part, 6, 4, l.counter as u64);
 }
 
-fn put_kept(area: &mut [u8], k: Kept)
-    requires { ⌜ (186 ≤ length (now area)) × (k .count ≤ 255) ⌝ }
-    ensures memory { λ _. ⌜ now (area .exit) ≡ sets (now (area .entry)) 40 (keptBytes k) ⌝ }
-    ensures small { λ _. ⌜ (length (k .currents) ≡ 60) × Below 65536 (k .currents) ⌝ }
+fn put_tank(part: &mut [u8], t: Tank)
+    requires { ⌜ length (now part) ≡ bytesTaken tankWidths ⌝ }
+    ensures { λ _. ⌜ now (part .exit) ≡ tankBytes t ⌝ }
 {
-    let currents = k.currents;
-    put_words(area, 40, &currents);
-    area[160] = k.count as u8;
+    put_number(part, 0, 8, t.charge);
+    put_words(part, 8, &[t.full, t.CycleCount]);
+    part[12] = flag(t.FullyDischarged);
 }
 
-fn put_tank(area: &mut [u8], t: Tank)
-    requires { ⌜ 186 ≤ length (now area) ⌝ }
-    ensures memory { λ _. ⌜ now (area .exit) ≡ sets (now (area .entry)) 161 (tankBytes t) ⌝ }
-    ensures small { λ _. ⌜ Below 65536 (tankWords t) ⌝ }
+fn put_timers(part: &mut [u8], t: Timers)
+    requires { ⌜ length (now part) ≡ bytesTaken timersWidths ⌝ }
+    ensures { λ _. ⌜ now (part .exit) ≡ timersBytes t ⌝ }
 {
-    put_number(area, 161, 8, t.charge);
-    put_words(area, 169, &[t.full, t.CycleCount]);
-    area[173] = flag(t.FullyDischarged);
+    put_number(part, 0, 4, t.hold as u64);
+    put_number(part, 4, 4, t.alarm as u64);
+    put_number(part, 8, 4, t.charger as u64);
 }
 
-fn put_timers(area: &mut [u8], t: Timers)
-    requires { ⌜ 186 ≤ length (now area) ⌝ }
-    ensures { λ _. ⌜ now (area .exit) ≡ sets (now (area .entry)) 174 (timersBytes t) ⌝ }
+fn put_recent(part: &mut [u8], r: Recent)
+    requires { ⌜ length (now part) ≡ bytesTaken recentWidths ⌝ }
+    ensures memory { λ _. ⌜ now (part .exit) ≡ recentBytes r ⌝ }
+    ensures fit { λ _. ⌜ RecentFit r ⌝ }
 {
-    put_number(area, 174, 4, t.hold as u64);
-    put_number(area, 178, 4, t.alarm as u64);
-    put_number(area, 182, 4, t.charger as u64);
+    let currents = r.currents;
+    put_words(part, 0, &currents);
+    put_number(part, 120, 1, r.count as u64);
 }
 
 // The whole area.
 fn put_state(area: &mut [u8], s: State)
-    requires { ⌜ (length (now area) ≡ 186) × (s .pack .kept .count ≤ 255) ⌝ }
+    requires { ⌜ length (now area) ≡ areaLength ⌝ }
     ensures memory { λ _. ⌜ now (area .exit) ≡ areaOf s ⌝ }
-    ensures small { λ _. ⌜ Fits s ⌝ }
+    ensures fit { λ _. ⌜ RecentFit (s .pack .recent) ⌝ }
 {
     put_number(area, 0, 1, s.error as u64);
-    put_settings(area, s.pack.settings);
-    put_host(area, s.pack.host);
-    put_latest(area, s.pack.latest);
-    put_kept(area, s.pack.kept);
-    put_tank(area, s.pack.tank);
-    put_timers(area, s.pack.timers);
+    put_settings(&mut area[SETTINGS..HOST], s.pack.settings);
+    put_host(&mut area[HOST..LATEST], s.pack.host);
+    put_latest(&mut area[LATEST..TANK], s.pack.latest);
+    put_tank(&mut area[TANK..TIMERS], s.pack.tank);
+    put_timers(&mut area[TIMERS..RECENT], s.pack.timers);
+    put_recent(&mut area[RECENT..LENGTH], s.pack.recent);
 }
 
 // A state into room for an area: answer 0; or 1, and the room stays.
 pub fn store(s: State, room: &mut [u8]) -> u8
     ensures answer { λ r. ⌜ r ≡ storedOf s (now (room .entry)) ⌝ }
-    ensures memory { λ _. ⌜ now (room .exit) ≡ roomAfter s (now (room .entry)) ⌝ }
+    ensures memory { λ _. ⌜ now (room .exit) ≡ storedRoom s (now (room .entry)) ⌝ }
     ensures back { λ r. ⌜ (r ≡ 0 → loadedOf (now (room .exit)) ≡ loaded s) ⌝ }
 {
-    if room.len() != 186 {
+    if room.len() != LENGTH {
         return 1;
     }
-    if 255 < s.pack.kept.count {
+    if 255 < s.pack.recent.count {
         return 1;
     }
     put_state(room, s);
     0
 }
 
-// Numbers of 2, 4 and 8 bytes at a place.
-fn word_at(area: &[u8], at: usize) -> u16
-    requires { ⌜ at + 2 ≤ length (now area) ⌝ }
-    ensures { λ r. ⌜ r ≡ numberAt 2 (now (area .entry)) at ⌝ }
+// A number of at most 8 bytes at a place.
+fn number_at(part: &[u8], at: usize, n: usize) -> u64
+    requires { ⌜ (at + n ≤ length (now part)) × (n ≤ 8) ⌝ }
+    ensures { λ r. ⌜ (r ≡ numberAt n (now (part .entry)) at) × (r < 256 ^ n) ⌝ }
 {
-    words::join(area[at], area[at + 1])
-}
-
-fn long_at(area: &[u8], at: usize) -> u32
-    requires { ⌜ at + 4 ≤ length (now area) ⌝ }
-    ensures { λ r. ⌜ r ≡ numberAt 4 (now (area .entry)) at ⌝ }
-{
-    let low = word_at(area, at) as u32;
-    let high = word_at(area, at + 2) as u32;
-    low + 65536 * high
-}
-
-fn wide_at(area: &[u8], at: usize) -> u64
-    requires { ⌜ at + 8 ≤ length (now area) ⌝ }
-    ensures { λ r. ⌜ r ≡ numberAt 8 (now (area .entry)) at ⌝ }
-{
-    let low = long_at(area, at) as u64;
-    let high = long_at(area, at + 4) as u64;
-    low + 4294967296 * high
-}
-
-// Sixty words from a place on.
-fn words_at(area: &[u8], at: usize) -> [u16; 60]
-    requires { ⌜ at + 120 ≤ length (now area) ⌝ }
-    ensures { λ r. ⌜ r ≡ wordsAt 60 (now (area .entry)) at ⌝ }
-{
-    let mut found = [0u16; 60];
-    let mut i = 0;
-    while i < 60 {
-        let w = word_at(area, at + 2 * i);
-        found[i] = w;
-        i += 1;
+    let mut i = n;
+    let mut found: u64 = 0;
+    while 0 < i {
+        i -= 1;
+        found = 256 * found + (part[at + i] as u64);
     }
     found
 }
 
-// Each part from its place in the area.
-fn settings_in(area: &[u8]) -> Settings
-    requires { ⌜ 186 ≤ length (now area) ⌝ }
-    ensures { λ r. ⌜ r ≡ settingsIn (now (area .entry)) ⌝ }
+fn byte_at(part: &[u8], at: usize) -> u8
+    requires { ⌜ at + 1 ≤ length (now part) ⌝ }
+    ensures { λ r. ⌜ r ≡ numberAt 1 (now (part .entry)) at ⌝ }
 {
+    number_at(part, at, 1) as u8
+}
+
+fn word_at(part: &[u8], at: usize) -> u16
+    requires { ⌜ at + 2 ≤ length (now part) ⌝ }
+    ensures { λ r. ⌜ r ≡ numberAt 2 (now (part .entry)) at ⌝ }
+{
+    number_at(part, at, 2) as u16
+}
+
+fn long_at(part: &[u8], at: usize) -> u32
+    requires { ⌜ at + 4 ≤ length (now part) ⌝ }
+    ensures { λ r. ⌜ r ≡ numberAt 4 (now (part .entry)) at ⌝ }
+{
+    number_at(part, at, 4) as u32
+}
+
+// As many words as asked for, from a place on.
+fn words_at(part: &[u8], at: usize, words: &mut [u16])
+    requires { ⌜ at + 2 * length (now words) ≤ length (now part) ⌝ }
+    ensures { λ _. ⌜ now (words .exit) ≡ numbersAt (replicate (length (now (words .entry))) 2) (now (part .entry)) at ⌝ }
+{
+    let mut i = 0;
+    while i < words.len() {
+        words[i] = word_at(part, at + 2 * i);
+        i += 1;
+    }
+}
+
+fn settings_in(part: &[u8]) -> Settings
+    requires { ⌜ length (now part) ≡ bytesTaken settingsWidths ⌝ }
+    ensures { λ r. ⌜ r ≡ settingsIn (now (part .entry)) ⌝ }
+{
+    let mut w = [0u16; 9];
+    words_at(part, 0, &mut w);
     Settings {
-        DesignCapacity: word_at(area, 1),
-        DesignVoltage: word_at(area, 3),
-        MaxError: word_at(area, 5),
-        ManufactureDate: word_at(area, 7),
-        SerialNumber: word_at(area, 9),
-        ChargingCurrent: word_at(area, 11),
-        ChargingVoltage: word_at(area, 13),
-        TemperatureLimit: word_at(area, 15),
-        DischargeLimit: word_at(area, 17),
+        DesignCapacity: w[0],
+        DesignVoltage: w[1],
+        MaxError: w[2],
+        ManufactureDate: w[3],
+        SerialNumber: w[4],
+        ChargingCurrent: w[5],
+        ChargingVoltage: w[6],
+        TemperatureLimit: w[7],
+        DischargeLimit: w[8],
     }
 }
 
-fn host_in(area: &[u8]) -> Host
-    requires { ⌜ 186 ≤ length (now area) ⌝ }
-    ensures { λ r. ⌜ r ≡ hostIn (now (area .entry)) ⌝ }
+fn host_in(part: &[u8]) -> Host
+    requires { ⌜ length (now part) ≡ bytesTaken hostWidths ⌝ }
+    ensures { λ r. ⌜ r ≡ hostIn (now (part .entry)) ⌝ }
 {
+    let mut w = [0u16; 4];
+    words_at(part, 0, &mut w);
     Host {
-        ManufacturerAccess: word_at(area, 19),
-        RemainingCapacityAlarm: word_at(area, 21),
-        RemainingTimeAlarm: word_at(area, 23),
-        AtRate: word_at(area, 25),
-        AlarmMode: area[27] == 1,
-        ChargerMode: area[28] == 1,
-        CapacityMode: area[29] == 1,
+        ManufacturerAccess: w[0],
+        RemainingCapacityAlarm: w[1],
+        RemainingTimeAlarm: w[2],
+        AtRate: w[3],
+        AlarmMode: byte_at(part, 8) == 1,
+        ChargerMode: byte_at(part, 9) == 1,
+        CapacityMode: byte_at(part, 10) == 1,
     }
 }
 
-fn latest_in(area: &[u8]) -> Latest
-    requires { ⌜ 186 ≤ length (now area) ⌝ }
-    ensures { λ r. ⌜ r ≡ latestIn (now (area .entry)) ⌝ }
+fn is_host(part: &[u8]) -> bool
+    requires { ⌜ length (now part) ≡ bytesTaken hostWidths ⌝ }
+    ensures { λ r. ⌜ r ≡ isHost (now (part .entry)) ⌝ }
 {
+    (byte_at(part, 8) <= 1) & (byte_at(part, 9) <= 1) & (byte_at(part, 10) <= 1)
+}
+
+fn latest_in(part: &[u8]) -> Latest
+    requires { ⌜ length (now part) ≡ bytesTaken latestWidths ⌝ }
+    ensures { λ r. ⌜ r ≡ latestIn (now (part .entry)) ⌝ }
+{
+    let mut w = [0u16; 3];
+    words_at(part, 0, &mut w);
     Latest {
-        voltage: word_at(area, 30),
-        current: word_at(area, 32),
-        temperature: word_at(area, 34),
-        counter: long_at(area, 36),
+        voltage: w[0],
+        current: w[1],
+        temperature: w[2],
+        counter: long_at(part, 6),
     }
 }
 
-// A byte as a count.
-fn counted(b: u8) -> usize
-    ensures { λ r. ⌜ r ≡ b ⌝ }
-{
-    b as usize
-}
-
-fn kept_in(area: &[u8]) -> Kept
-    requires { ⌜ 186 ≤ length (now area) ⌝ }
-    ensures { λ r. ⌜ r ≡ keptIn (now (area .entry)) ⌝ }
-{
-    Kept {
-        currents: words_at(area, 40),
-        count: counted(area[160]),
-    }
-}
-
-fn tank_in(area: &[u8]) -> Tank
-    requires { ⌜ 186 ≤ length (now area) ⌝ }
-    ensures { λ r. ⌜ r ≡ tankIn (now (area .entry)) ⌝ }
+fn tank_in(part: &[u8]) -> Tank
+    requires { ⌜ length (now part) ≡ bytesTaken tankWidths ⌝ }
+    ensures { λ r. ⌜ r ≡ tankIn (now (part .entry)) ⌝ }
 {
     Tank {
-        charge: wide_at(area, 161),
-        full: word_at(area, 169),
-        CycleCount: word_at(area, 171),
-        FullyDischarged: area[173] == 1,
+        charge: number_at(part, 0, 8),
+        full: word_at(part, 8),
+        CycleCount: word_at(part, 10),
+        FullyDischarged: byte_at(part, 12) == 1,
     }
 }
 
-fn timers_in(area: &[u8]) -> Timers
-    requires { ⌜ 186 ≤ length (now area) ⌝ }
-    ensures { λ r. ⌜ r ≡ timersIn (now (area .entry)) ⌝ }
+fn is_tank(part: &[u8]) -> bool
+    requires { ⌜ length (now part) ≡ bytesTaken tankWidths ⌝ }
+    ensures { λ r. ⌜ r ≡ isTank (now (part .entry)) ⌝ }
+{
+    byte_at(part, 12) <= 1
+}
+
+fn timers_in(part: &[u8]) -> Timers
+    requires { ⌜ length (now part) ≡ bytesTaken timersWidths ⌝ }
+    ensures { λ r. ⌜ r ≡ timersIn (now (part .entry)) ⌝ }
 {
     Timers {
-        hold: long_at(area, 174),
-        alarm: long_at(area, 178),
-        charger: long_at(area, 182),
+        hold: long_at(part, 0),
+        alarm: long_at(part, 4),
+        charger: long_at(part, 8),
+    }
+}
+
+fn recent_in(part: &[u8]) -> Recent
+    requires { ⌜ length (now part) ≡ bytesTaken recentWidths ⌝ }
+    ensures { λ r. ⌜ r ≡ recentIn (now (part .entry)) ⌝ }
+{
+    let mut currents = [0u16; 60];
+    words_at(part, 0, &mut currents);
+    let count = rooms::wide(byte_at(part, 120));
+    Recent {
+        currents: currents,
+        count: count,
     }
 }
 
@@ -299,27 +329,27 @@ fn timers_in(area: &[u8]) -> Timers
 pub fn is_area(area: &[u8]) -> bool
     ensures { λ r. ⌜ r ≡ isArea (now (area .entry)) ⌝ }
 {
-    if area.len() != 186 {
+    if area.len() != LENGTH {
         return false;
     }
-    (area[27] <= 1) & (area[28] <= 1) & (area[29] <= 1) & (area[173] <= 1)
+    is_host(&area[HOST..LATEST]) & is_tank(&area[TANK..TIMERS])
 }
 
 // The whole state.
 fn state_in(area: &[u8]) -> State
-    requires { ⌜ 186 ≤ length (now area) ⌝ }
+    requires { ⌜ length (now area) ≡ areaLength ⌝ }
     ensures { λ r. ⌜ r ≡ stateIn (now (area .entry)) ⌝ }
 {
     let pack = Pack {
-        settings: settings_in(area),
-        host: host_in(area),
-        latest: latest_in(area),
-        kept: kept_in(area),
-        tank: tank_in(area),
-        timers: timers_in(area),
+        settings: settings_in(&area[SETTINGS..HOST]),
+        host: host_in(&area[HOST..LATEST]),
+        latest: latest_in(&area[LATEST..TANK]),
+        recent: recent_in(&area[RECENT..LENGTH]),
+        tank: tank_in(&area[TANK..TIMERS]),
+        timers: timers_in(&area[TIMERS..RECENT]),
     };
     State {
-        error: area[0],
+        error: byte_at(area, 0),
         pack: pack,
     }
 }

@@ -1,58 +1,76 @@
--- Different areas hold different states, and different states have different areas; the state of an area fits; a sound state
--- goes into every area. (That each gives the other back is area's Stored and Held.)
+-- The theorems on areas. (That each gives the other back is area's Whole.)
 -- Assumes nothing.
-use mathlib.Core.Path.{_≡_, sym, ap, _∙_}
-use mathlib.Core.Bool.{true}
+use mathlib.Core.Path.{refl, sym, ap, _∙_}
 use mathlib.Core.List.{List, _++_}
-use Prim.Native.Nat.{ℕ, _≤_}
+use Prim.Native.Nat.{ℕ, zero, suc, _+_, _≤_}
 use native.Mathlib.Omega.{arith}
 use borrow.Author.Tests.{eq-eqb, le-leb}
-use lib.ListN.{length, drop}
-use Rattle.area.specs.Area.{areaOf, settingsBytes, hostBytes, latestBytes, keptBytes, tankBytes, timersBytes, stateIn, isArea, storedOf}
-use Rattle.area.proofs.Stores.{words-count}
-use Rattle.area.specs.Fits.{Below, Fits}
-use Rattle.area.proofs.Held.{held, byte-fits, long-fits, wide-fits, words-fit}
-use Rattle.area.proofs.Stored.{read-back}
-use Rattle.pack.proofs.Soundness.{facts as sound-facts}
-use Rattle.pack.specs.Sound.{soundOf}
+use lib.ListN.{replicate}
+use Rattle.rooms.specs.Rooms.{Bytes, between}
+use Rattle.area.specs.Area.{settingsAt, hostAt, latestAt, tankAt, timersAt, recentAt, areaLength, areaOf, stateIn}
+use Rattle.recent.specs.Fits.{Below}
+use Rattle.area.specs.Numbers.{numbersAt}
+use Rattle.area.specs.Parts.{settingsBytes, hostBytes, latestBytes, tankBytes, timersBytes, recentBytes, recentIn}
+use Rattle.area.proofs.Numbers.{bytes-between, number-fits}
+use Rattle.area.proofs.Whole.{held, read-back}
+use Rattle.area_laws.specs.Laws.{AreasTell, HeldInArea, StatesTell, SoundGoesIn, ErrorFirst}
+use Rattle.pack.proofs.Soundness.{count-of-sound}
 use Rattle.pack.specs.declared.Pack.{Pack}
-use Rattle.pack.specs.declared.State.{State}
 
--- the state that an area holds fits
-pub held-fits : (a : List ℕ) → Below 256 a → Fits (stateIn a)
-unfolding stateIn
-held-fits a b =
-    record {
-      error = byte-fits a b 0;
-      settings = words-fit a b 9 1;
-      host = words-fit a b 4 19;
-      latest = words-fit a b 3 30;
-      counter = long-fits a b 36;
-      sixty = words-count 60 a 40;
-      currents = words-fit a b 60 40;
-      count = byte-fits a b 160;
-      charge = wide-fits a b 161;
-      tank = words-fit a b 2 169;
-      timers = (long-fits a b 174, (long-fits a b 178, (long-fits a b 182, tt)));
-    }
-
--- two areas that hold one state are one
-pub areas-tell : (a b : List ℕ) → Below 256 a → Below 256 b → isArea a ≡ true → isArea b ≡ true → stateIn a ≡ stateIn b → a ≡ b
+pub areas-tell : AreasTell
 areas-tell a b ba bb ia ib e = sym (held a ba ia) ∙ ap areaOf e ∙ held b bb ib
 
--- two states with one area are one
-pub states-tell : (s t : State) → Fits s → Fits t → areaOf s ≡ areaOf t → s ≡ t
-states-tell s t f g e = sym (read-back s f) ∙ ap stateIn e ∙ read-back t g
+words-fit : (l : List ℕ) → Bytes l → (n at : ℕ) → Below 65536 (numbersAt (replicate n 2) l at)
+words-fit l b zero at = tt
+words-fit l b (suc n) at = (number-fits l b 2 at, words-fit l b n (at + 2))
 
--- a sound state goes into room for an area
-pub sound-goes-in : (s : State) (room : List ℕ) → soundOf s ≡ true → length room ≡ 186 → storedOf s room ≡ 0
+pub held-in-area : HeldInArea
+unfolding stateIn recentIn
+held-in-area a b =
+    let settings = number-fits (between a settingsAt hostAt) (bytes-between a b settingsAt hostAt) 2 in
+    let host = number-fits (between a hostAt latestAt) (bytes-between a b hostAt latestAt) 2 in
+    let latest = number-fits (between a latestAt tankAt) (bytes-between a b latestAt tankAt) in
+    let tank = number-fits (between a tankAt timersAt) (bytes-between a b tankAt timersAt) in
+    let timers = number-fits (between a timersAt recentAt) (bytes-between a b timersAt recentAt) 4 in
+    let recent = number-fits (between a recentAt areaLength) (bytes-between a b recentAt areaLength) in
+    record {
+      fits =
+          record {
+            error = number-fits a b 1 0;
+            pack =
+                record {
+                  settings =
+                      record {
+                        DesignCapacity = settings 0;
+                        DesignVoltage = settings 2;
+                        MaxError = settings 4;
+                        ManufactureDate = settings 6;
+                        SerialNumber = settings 8;
+                        ChargingCurrent = settings 10;
+                        ChargingVoltage = settings 12;
+                        TemperatureLimit = settings 14;
+                        DischargeLimit = settings 16;
+                      };
+                  host = record { ManufacturerAccess = host 0; RemainingCapacityAlarm = host 2; RemainingTimeAlarm = host 4; AtRate = host 6 };
+                  latest = record { voltage = latest 2 0; current = latest 2 2; temperature = latest 2 4; counter = latest 4 6 };
+                  recent = record { sixty = refl; currents = words-fit (between a recentAt areaLength) (bytes-between a b recentAt areaLength) 60 0; count = omega (arith, recent 1 120) };
+                  tank = record { charge = tank 8 0; full = tank 2 8; CycleCount = tank 2 10 };
+                  timers = record { hold = timers 0; alarm = timers 4; charger = timers 8 };
+                };
+          };
+      count = omega (arith, recent 1 120);
+    }
+
+pub states-tell : StatesTell
+states-tell s t f g e = sym (read-back s (f .fits) (omega (arith, f .count))) ∙ ap stateIn e ∙ read-back t (g .fits) (omega (arith, g .count))
+
+pub sound-goes-in : SoundGoesIn
 sound-goes-in s room h n =
-    let most : s .pack .kept .count ≤ 255 = omega (arith, sound-facts s h .most) in rw (eq-eqb _ _ n, le-leb _ _ most)
+    let most : s .pack .recent .count ≤ 255 = omega (arith, count-of-sound s h) in rw (eq-eqb _ _ n, le-leb _ _ most)
 
--- the error code is the area's first byte: where a call leaves the pack as it was, every other byte of the area stays
-pub error-first : (s t : State) → s .pack ≡ t .pack → drop 1 (areaOf s) ≡ drop 1 (areaOf t)
+pub error-first : ErrorFirst
 unfolding areaOf
 error-first s t e =
     ap
-    (λ (p : Pack). settingsBytes (p .settings) ++ hostBytes (p .host) ++ latestBytes (p .latest) ++ keptBytes (p .kept) ++ tankBytes (p .tank) ++ timersBytes (p .timers))
+    (λ (p : Pack). settingsBytes (p .settings) ++ hostBytes (p .host) ++ latestBytes (p .latest) ++ tankBytes (p .tank) ++ timersBytes (p .timers) ++ recentBytes (p .recent))
     e

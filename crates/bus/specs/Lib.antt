@@ -1,3 +1,1 @@
-pub mod Commands
 pub mod Transact
-pub mod Parts

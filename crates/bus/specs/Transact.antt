@@ -1,78 +1,43 @@
 -- Document 01, Answer numbers and Transactions: what every byte string is answered, the reply, and the state left.
 -- Assumes nothing.
 use Prim.Native.Nat.{ℕ, _/_, _%_, _^_}
-use mathlib.Core.Bool.{Bool, cond, not, _&&_, _||_}
-use mathlib.Core.List.{List, []}
-use lib.Dec.{ltb, eqb}
+use mathlib.Core.Bool.{Bool, cond}
+use mathlib.Core.List.{List}
+use lib.Dec.{eqb}
 use lib.ListN.{length}
-use Rattle.bus.specs.Commands.{kindOf}
-use Rattle.bus.specs.declared.Kind.{Kind}
-use Rattle.bus.specs.declared.Kind.the-variants.{ReadWrite, ReadOnly, Block, Optional, Reserved}
 use Rattle.bus.specs.declared.Transacted.{Transacted}
-use Rattle.frame.specs.Transactions.{requestOf, replyOf, wordBody, blockBody, placed}
+use Rattle.commands.specs.Answers.{Side, codeAfter, readAnswer, sideAnswer, served, sideReply, rowReply}
+use Rattle.commands.specs.declared.Kind.{Kind}
+use Rattle.commands.specs.Commands.{kindOf}
+use Rattle.frame.specs.Transactions.{requestOf}
 use Rattle.frame.specs.declared.Request.{Request}
 use Rattle.frame.specs.declared.Request.the-variants.{Refused, Read, Write}
-use Rattle.gauge.specs.Word.{wordOf}
+use Rattle.gauge.specs.Word.{wordOf, wordAnswer}
 use Rattle.pack.specs.Sound.{soundOf}
 use Rattle.pack.specs.declared.Host.{Host}
 use Rattle.pack.specs.declared.Pack.{Pack}
 use Rattle.pack.specs.declared.State.{State}
 use Rattle.pack.specs.declared.Timers.{Timers}
-use Rattle.sheet.specs.Block.{goodSheets, blockOf}
+use Rattle.rooms.specs.Rooms.{placed}
+use Rattle.sheet.specs.Block.{blockOf, blockAnswer}
 
--- ---- the answer
+-- ---- the pack's side of the bus
 
--- 10: AtRateTimeToFull in power mode
-abbrev pub wordAnswer : ℕ → Bool → ℕ
-wordAnswer command power = cond (eqb command 0x05 && power) 10 0
-
--- a read, by its command's row. 6: reserved command; 7: optional command not built; 9: block read, a sheet is bad
-abbrev pub readAnswer : Kind → Bool → Bool → ℕ → ℕ
-readAnswer Reserved good power command = 6
-readAnswer Optional good power command = 7
-readAnswer Block good power command = cond good 0 9
-readAnswer ReadOnly good power command = wordAnswer command power
-readAnswer ReadWrite good power command = 0
-
--- a write, by its command's row. 6: reserved command; 7: optional command not built; 8: write to a read-only command
-abbrev pub writeAnswer : Kind → ℕ
-writeAnswer Reserved = 6
-writeAnswer Optional = 7
-writeAnswer Block = 8
-writeAnswer ReadOnly = 8
-writeAnswer ReadWrite = 0
-
--- what a request is answered; 3, 4 and 5 come with it
-abbrev pub requestAnswer : Request → Bool → Bool → ℕ
-requestAnswer (Refused answer) good power = answer
-requestAnswer (Read command) good power = readAnswer (kindOf command) good power command
-requestAnswer (Write command word checked) good power = writeAnswer (kindOf command)
-
--- 1: state isn't sound; 2: lent reply room under 34 bytes; then the request's: so the lowest number above 0 whose condition holds
-unfoldable pub answerOf : State → Bool → Request → ℕ → ℕ
-answerOf s good request room =
-    cond (not (soundOf s)) 1
-    (cond (ltb room 34) 2
-    (requestAnswer request good (s .pack .host .CapacityMode)))
-
--- answers 0 and 10 are served; every other is a refusal
-abbrev pub served : ℕ → Bool
-served answer = eqb answer 0 || eqb answer 10
+-- the pack at 0x16 with its table of commands; 2: lent reply room under 34 bytes; 10 comes with the word, 9 with the sheets
+abbrev pub packSide : State → List ℕ → List ℕ → Side
+packSide s service factory =
+    record {
+      address = 0x16;
+      kinds = kindOf;
+      least = 34;
+      sound = soundOf s;
+      wordAnswer = λ command. wordAnswer s command;
+      word = λ command. wordOf s command;
+      blockAnswer = λ command. blockAnswer service factory;
+      block = λ command. blockOf service factory command;
+    }
 
 -- ---- the state left
-
--- error code left, by the answer; after 1, 2 and 3 as it was
-unfoldable pub codeAfter : ℕ → ℕ → ℕ
-codeAfter answer before =
-    cond (eqb answer 0) 0
-    (cond (eqb answer 4) 6
-    (cond (eqb answer 5) 7
-    (cond (eqb answer 6) 2
-    (cond (eqb answer 7) 3
-    (cond (eqb answer 8) 4
-    (cond (eqb answer 9) 7
-    (cond (eqb answer 10) 5
-    before)))))))
 
 -- bit k of a word is set
 abbrev pub bitSet : ℕ → ℕ → Bool
@@ -101,13 +66,13 @@ timersWritten t command word =
     }
 
 -- the pack after a served write
-unfoldable pub written : Pack → ℕ → ℕ → Pack
-written p command word =
+unfoldable pub packWritten : Pack → ℕ → ℕ → Pack
+packWritten p command word =
     record {
       settings = p .settings;
       host = hostWritten (p .host) command word;
       latest = p .latest;
-      kept = p .kept;
+      recent = p .recent;
       tank = p .tank;
       timers = timersWritten (p .timers) command word;
     }
@@ -116,24 +81,7 @@ written p command word =
 abbrev pub packAfter : Pack → Request → ℕ → Pack
 packAfter p (Refused n) answer = p
 packAfter p (Read command) answer = p
-packAfter p (Write command word checked) answer = cond (served answer) (written p command word) p
-
--- ---- the reply
-
--- what a read shows: a block for 20 to 23, else a word
-abbrev pub readBody : Kind → State → List ℕ → List ℕ → ℕ → List ℕ
-readBody Block s service factory command = blockBody (blockOf service factory command)
-readBody ReadOnly s service factory command = wordBody (wordOf s command)
-readBody ReadWrite s service factory command = wordBody (wordOf s command)
-readBody Optional s service factory command = []
-readBody Reserved s service factory command = []
-
--- only a served read has reply bytes
-abbrev pub replyTo : State → List ℕ → List ℕ → List ℕ → Request → ℕ → List ℕ
-replyTo s service factory bytes (Refused n) answer = []
-replyTo s service factory bytes (Read command) answer =
-    cond (served answer) (replyOf bytes (readBody (kindOf command) s service factory command)) []
-replyTo s service factory bytes (Write command word checked) answer = []
+packAfter p (Write command word checked) answer = cond (served answer) (packWritten p command word) p
 
 -- ---- the entry
 
@@ -148,20 +96,28 @@ asked read bytes = requestOf 0x16 read bytes
 
 -- the answer to the driver's bytes and mark, for a state, the service and the factory sheet, and the length of the lent reply room
 unfoldable pub transactAnswer : State → List ℕ → List ℕ → Bool → List ℕ → ℕ → ℕ
-transactAnswer s service factory read bytes room = answerOf s (goodSheets service factory) (asked read bytes) room
+transactAnswer s service factory read bytes room = sideAnswer (packSide s service factory) (asked read bytes) room
 
 -- the reply to them
 unfoldable pub transactReply : State → List ℕ → List ℕ → Bool → List ℕ → ℕ → List ℕ
 transactReply s service factory read bytes room =
-    replyTo s service factory bytes (asked read bytes) (transactAnswer s service factory read bytes room)
+    sideReply (packSide s service factory) bytes (asked read bytes) (transactAnswer s service factory read bytes room)
 
--- answer, state and number of reply bytes
+-- what a request is given by its answer: answer, state and number of reply bytes
+abbrev pub requestGiven : State → List ℕ → List ℕ → List ℕ → Request → ℕ → Transacted
+requestGiven s service factory bytes request answer =
+    outcome s answer (packAfter (s .pack) request answer) (length (sideReply (packSide s service factory) bytes request answer))
+
+-- what a read is given where its answer is that of its command's row
+abbrev pub rowGiven : State → List ℕ → List ℕ → List ℕ → ℕ → Kind → Transacted
+rowGiven s service factory bytes command kind =
+    outcome s (readAnswer (packSide s service factory) command kind) (s .pack) (length (rowReply (packSide s service factory) bytes command kind))
+
+-- what the driver's bytes and mark are given
 unfoldable pub transactOf : State → List ℕ → List ℕ → Bool → List ℕ → ℕ → Transacted
 transactOf s service factory read bytes room =
-    outcome s (transactAnswer s service factory read bytes room)
-    (packAfter (s .pack) (asked read bytes) (transactAnswer s service factory read bytes room))
-    (length (transactReply s service factory read bytes room))
+    requestGiven s service factory bytes (asked read bytes) (transactAnswer s service factory read bytes room)
 
 -- the lent reply room: the reply's bytes at the front, the rest stays
-unfoldable pub roomAfter : State → List ℕ → List ℕ → Bool → List ℕ → List ℕ → List ℕ
-roomAfter s service factory read bytes room = placed (transactReply s service factory read bytes (length room)) room
+unfoldable pub replyRoom : State → List ℕ → List ℕ → Bool → List ℕ → List ℕ → List ℕ
+replyRoom s service factory read bytes room = placed (transactReply s service factory read bytes (length room)) room

@@ -1,28 +1,22 @@
-// Transactions: the table of commands, and the answer to every byte string that the driver gives.
+// Transactions: the answer to every byte string that the driver gives.
 ghost use mathlib.Core.Path.{_≡_};
 ghost use mathlib.Core.Bool.{true, cond};
 ghost use Prim.Native.Nat.{_≤_};
 ghost use lib.ListN.{length};
-ghost use Rattle.bus.specs.Commands.{kindOf};
-ghost use Rattle.bus.specs.Parts.{blockReply, blockOutcome, readReply, readOutcome, writeOutcome};
-ghost use Rattle.bus.specs.Transact.{wordAnswer, codeAfter, hostWritten, timersWritten, written, outcome, transactOf, roomAfter};
-ghost use Rattle.frame.specs.Transactions.{replyOf, wordBody, placed};
-ghost use Rattle.gauge.specs.Word.{wordOf};
+ghost use Rattle.bus.specs.Transact.{packSide, hostWritten, timersWritten, packWritten, outcome, rowGiven, transactOf, replyRoom};
+ghost use Rattle.commands.specs.Answers.{writeAnswer, served, rowReply};
+ghost use Rattle.commands.specs.Commands.{kindOf};
+ghost use Rattle.commands.specs.declared.Kind.the-variants.{Block};
+ghost use Rattle.frame.specs.Transactions.{replyOf, wordBody};
+ghost use Rattle.gauge.specs.Word.{wordOf, wordAnswer};
 ghost use Rattle.pack.specs.Sound.{soundOf};
+ghost use Rattle.rooms.specs.Rooms.{placed};
+use commands::Kind;
 use frame::Request;
 use pack::Host;
 use pack::Pack;
 use pack::State;
 use pack::Timers;
-
-// A command's row.
-pub enum Kind {
-    ReadWrite,
-    ReadOnly,
-    Block,
-    Optional,
-    Reserved,
-}
 
 // What a transaction gives back: its answer, the state left, the number of reply bytes.
 pub struct Transacted {
@@ -31,50 +25,11 @@ pub struct Transacted {
     pub length: usize,
 }
 
-// The rows of 00 to 3F, by number: 0 read and write, 1 read only, 2 block, 3 optional, 4 reserved.
-const KINDS: [u8; 64] = *b"\x00\x00\x00\x00\x00\x01\x01\x01\x01\x01\x01\x01\x01\x01\x01\x01\
-    \x01\x01\x01\x01\x01\x01\x01\x01\x01\x01\x01\x01\x01\x04\x04\x04\
-    \x02\x02\x02\x02\x04\x04\x04\x04\x04\x04\x04\x04\x04\x04\x04\x03\
-    \x04\x04\x04\x04\x04\x04\x04\x04\x04\x04\x04\x04\x03\x03\x03\x03";
-
-// 40 to FF are reserved.
-fn row(command: u8) -> Kind
-    ensures { λ r. ⌜ r ≡ kindOf command ⌝ }
-{
-    if 0x3F < command {
-        return Kind::Reserved;
-    }
-    match KINDS[command as usize] {
-        0 => Kind::ReadWrite,
-        1 => Kind::ReadOnly,
-        2 => Kind::Block,
-        3 => Kind::Optional,
-        _ => Kind::Reserved,
-    }
-}
-
-// The error code left.
-fn code_after(answer: u8, before: u8) -> u8
-    ensures { λ r. ⌜ r ≡ codeAfter answer before ⌝ }
-{
-    match answer {
-        0 => 0,
-        4 => 6,
-        5 => 7,
-        6 => 2,
-        7 => 3,
-        8 => 4,
-        9 => 7,
-        10 => 5,
-        _ => before,
-    }
-}
-
 // The answer, the state with the error code that it leaves, and the number of reply bytes.
 fn answered(s: State, answer: u8, pack: Pack, length: usize) -> Transacted
     ensures { λ r. ⌜ r ≡ outcome s answer pack length ⌝ }
 {
-    let error = code_after(answer, s.error);
+    let error = commands::code_after(answer, s.error);
     let state = State {
         error: error,
         pack: pack,
@@ -94,25 +49,15 @@ fn unchanged(s: State, answer: u8, length: usize) -> Transacted
     answered(s, answer, pack, length)
 }
 
-// AtRateTimeToFull has no word in power mode.
-fn word_answer(command: u8, power: bool) -> u8
-    ensures { λ r. ⌜ r ≡ wordAnswer command power ⌝ }
-{
-    if (command == 0x05) & power {
-        return 10;
-    }
-    0
-}
-
-// A word read that is served, with answer 0 or 10.
-fn serve_word(s: State, answer: u8, command: u8, bytes: &[u8], room: &mut [u8]) -> Transacted
+// A word read, with the answer that comes with the word.
+fn serve_word(s: State, command: u8, bytes: &[u8], room: &mut [u8]) -> Transacted
     requires { ⌜ (soundOf s ≡ true) × (34 ≤ length (now room)) ⌝ }
-    ensures result { λ r. ⌜ r ≡ outcome s answer (s .pack) (length (replyOf (now (bytes .entry)) (wordBody (wordOf s command)))) ⌝ }
+    ensures result { λ r. ⌜ r ≡ outcome s (wordAnswer s command) (s .pack) (length (replyOf (now (bytes .entry)) (wordBody (wordOf s command)))) ⌝ }
     ensures memory { λ _. ⌜ now (room .exit) ≡ placed (replyOf (now (bytes .entry)) (wordBody (wordOf s command))) (now (room .entry)) ⌝ }
 {
-    let word = gauge::word(s, command);
-    let length = frame::put_word(room, bytes, word);
-    unchanged(s, answer, length)
+    let shown = gauge::show(s, command);
+    let length = frame::put_word(room, bytes, shown.word);
+    unchanged(s, shown.answer, length)
 }
 
 // A block read: 9 where a sheet is bad.
@@ -125,8 +70,8 @@ fn serve_block<'a>(
     room: &mut [u8],
 ) -> Transacted
     requires { ⌜ 34 ≤ length (now room) ⌝ }
-    ensures result { λ r. ⌜ r ≡ blockOutcome s (now (service .entry)) (now (factory .entry)) command (now (bytes .entry)) ⌝ }
-    ensures memory { λ _. ⌜ now (room .exit) ≡ placed (blockReply (now (service .entry)) (now (factory .entry)) command (now (bytes .entry))) (now (room .entry)) ⌝ }
+    ensures result { λ r. ⌜ r ≡ rowGiven s (now (service .entry)) (now (factory .entry)) (now (bytes .entry)) command Block ⌝ }
+    ensures memory { λ _. ⌜ now (room .exit) ≡ placed (rowReply (packSide s (now (service .entry)) (now (factory .entry))) (now (bytes .entry)) command Block) (now (room .entry)) ⌝ }
 {
     let answer = sheet::block_answer(service, factory);
     if answer != 0 {
@@ -147,18 +92,15 @@ fn serve_read<'a>(
     room: &mut [u8],
 ) -> Transacted
     requires { ⌜ (soundOf s ≡ true) × (34 ≤ length (now room)) ⌝ }
-    ensures result { λ r. ⌜ r ≡ readOutcome s (now (service .entry)) (now (factory .entry)) command (now (bytes .entry)) ⌝ }
-    ensures memory { λ _. ⌜ now (room .exit) ≡ placed (readReply s (now (service .entry)) (now (factory .entry)) command (now (bytes .entry))) (now (room .entry)) ⌝ }
+    ensures result { λ r. ⌜ r ≡ rowGiven s (now (service .entry)) (now (factory .entry)) (now (bytes .entry)) command (kindOf command) ⌝ }
+    ensures memory { λ _. ⌜ now (room .exit) ≡ placed (rowReply (packSide s (now (service .entry)) (now (factory .entry))) (now (bytes .entry)) command (kindOf command)) (now (room .entry)) ⌝ }
 {
-    match row(command) {
+    match commands::row(command) {
         Kind::Reserved => unchanged(s, 6, 0),
         Kind::Optional => unchanged(s, 7, 0),
         Kind::Block => serve_block(s, service, factory, command, bytes, room),
-        Kind::ReadOnly => {
-            let answer = word_answer(command, s.pack.host.CapacityMode);
-            serve_word(s, answer, command, bytes, room)
-        }
-        Kind::ReadWrite => serve_word(s, 0, command, bytes, room),
+        Kind::ReadOnly => serve_word(s, command, bytes, room),
+        Kind::ReadWrite => serve_word(s, command, bytes, room),
     }
 }
 
@@ -219,11 +161,11 @@ fn timers_written(t: Timers, command: u8, word: u16) -> Timers
 
 // The pack after a served write.
 fn pack_written(p: Pack, command: u8, word: u16) -> Pack
-    ensures { λ r. ⌜ r ≡ written p command word ⌝ }
+    ensures { λ r. ⌜ r ≡ packWritten p command word ⌝ }
 {
     let settings = p.settings;
     let latest = p.latest;
-    let kept = p.kept;
+    let recent = p.recent;
     let tank = p.tank;
     let host = host_written(p.host, command, word);
     let timers = timers_written(p.timers, command, word);
@@ -231,7 +173,7 @@ fn pack_written(p: Pack, command: u8, word: u16) -> Pack
         settings: settings,
         host: host,
         latest: latest,
-        kept: kept,
+        recent: recent,
         tank: tank,
         timers: timers,
     }
@@ -239,9 +181,9 @@ fn pack_written(p: Pack, command: u8, word: u16) -> Pack
 
 // A write, by its command's row.
 fn serve_write(s: State, command: u8, word: u16) -> Transacted
-    ensures { λ r. ⌜ r ≡ writeOutcome s command word ⌝ }
+    ensures { λ r. ⌜ r ≡ outcome s (writeAnswer (kindOf command)) (cond (served (writeAnswer (kindOf command))) (packWritten (s .pack) command word) (s .pack)) 0 ⌝ }
 {
-    match row(command) {
+    match commands::row(command) {
         Kind::Reserved => unchanged(s, 6, 0),
         Kind::Optional => unchanged(s, 7, 0),
         Kind::Block => unchanged(s, 8, 0),
@@ -263,7 +205,7 @@ pub fn transact<'a>(
     room: &mut [u8],
 ) -> Transacted
     ensures result { λ r. ⌜ r ≡ transactOf s (now (service .entry)) (now (factory .entry)) read (now (bytes .entry)) (length (now (room .entry))) ⌝ }
-    ensures memory { λ _. ⌜ now (room .exit) ≡ roomAfter s (now (service .entry)) (now (factory .entry)) read (now (bytes .entry)) (now (room .entry)) ⌝ }
+    ensures memory { λ _. ⌜ now (room .exit) ≡ replyRoom s (now (service .entry)) (now (factory .entry)) read (now (bytes .entry)) (now (room .entry)) ⌝ }
 {
     if !pack::sound(s) {
         return unchanged(s, 1, 0);

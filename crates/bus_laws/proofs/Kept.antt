@@ -1,62 +1,54 @@
 -- What a call leaves of the registers: nothing but the error bits changes by a read, a refused call or an altered write.
 -- Assumes nothing.
-use Prim.Native.Nat.{ℕ, _≤_, _<_}
+use Prim.Native.Nat.{_<_}
 use mathlib.Core.Bool.{Bool, true, false}
-use mathlib.Core.List.{List, [], _∷_}
 use mathlib.Core.Logic.{_⊎_, inl, inr}
-use mathlib.Core.Path.{_≡_, refl, sym, ap, _∙_, subst}
+use mathlib.Core.Path.{_≡_, refl, sym, ap, subst}
 use native.Mathlib.Omega.{arith}
-use lib.ListN.{length}
 use Rattle.bus.proofs.Answers.{unsound, refused-outcome}
-use Rattle.bus.specs.Transact.{codeAfter, packAfter, asked, transactOf}
+use Rattle.bus.specs.Transact.{packAfter, asked, transactOf}
 use Rattle.bus.specs.declared.Transacted.{Transacted}
 use Rattle.bus_laws.proofs.Served.{idle-keeps}
 use Rattle.bus_laws.proofs.Soundness.{sound-stays}
-use Rattle.bus_laws.specs.Calls.{Call, result, answer, after, Idle, AllIdle, SameRegisters}
-use Rattle.frame.proofs.Requests.{altered}
+use Rattle.bus_laws.specs.Calls.{Call, result, answer, SameRegisters}
+use Rattle.bus_laws.specs.Promises.{IdleRegisters, AlteredKeeps, AlteredRegisters}
+use Rattle.commands.specs.Answers.{codeAfter}
 use Rattle.frame.specs.declared.Request.{Request}
 use Rattle.frame.specs.declared.Request.the-variants.{Refused}
-use Rattle.gauge.proofs.Words.{other-words, status-above-code}
-use Rattle.pack.proofs.Soundness.{facts}
+use Rattle.frame_laws.proofs.Requests.{altered}
+use Rattle.gauge_laws.proofs.Words.{other-words, status-above-code}
+use Rattle.pack.proofs.Soundness.{code-of-sound}
 use Rattle.pack.specs.Sound.{soundOf}
 use Rattle.pack.specs.declared.State.{State}
-use Rattle.pec.specs.Messages.{Right, bitsApart}
-use Rattle.pec_laws.specs.Faults.{Pair}
 
 -- a state that isn't sound stays as it is
-pub unsound-stays : (s : State) (c : Call) → soundOf s ≡ false → result s c .state ≡ s
+unsound-stays : (s : State) (c : Call) → soundOf s ≡ false → result s c .state ≡ s
 unfolding codeAfter
 unsound-stays s c e =
     ap (λ (r : Transacted). r .state)
     (refused-outcome s (c .service) (c .factory) (c .read) (c .bytes) (c .room) 1 (unsound s (c .service) (c .factory) (c .read) (c .bytes) (c .room) e) refl)
 
 -- with the pack as it was, no register differs but the error bits
-pub same-registers : (s : State) (c : Call) → result s c .state .pack ≡ s .pack → SameRegisters s (result s c .state)
+same-registers : (s : State) (c : Call) → result s c .state .pack ≡ s .pack → SameRegisters s (result s c .state)
 same-registers s c e = go (soundOf s) refl
   where
     go : (b : Bool) → soundOf s ≡ b → SameRegisters s (result s c .state)
     go false u = subst (λ (t : State). SameRegisters s t) (sym (unsound-stays s c u)) (record { words = λ command n. refl; status = refl })
     go true h =
-        let before : s .error < 16 = omega (arith, facts s h .error) in
-        let left : result s c .state .error < 16 = omega (arith, facts (result s c .state) (sound-stays s c h) .error) in
+        let before : s .error < 16 = omega (arith, code-of-sound s h) in
+        let left : result s c .state .error < 16 = omega (arith, code-of-sound (result s c .state) (sound-stays s c h)) in
         record {
           words = λ command n. other-words (result s c .state) s command e n;
           status = status-above-code (result s c .state) s e left before;
         }
 
 -- after a read or a refused call every word reads as before, but for the low four bits of 16
-pub idle-registers : (s : State) (c : Call) → Idle s c → SameRegisters s (result s c .state)
+pub idle-registers : IdleRegisters
 idle-registers s c h = same-registers s c (idle-keeps s c h)
-
--- any number of them leave the pack as it was
-pub all-idle-keep : (s : State) (cs : List Call) → AllIdle s cs → after s cs .pack ≡ s .pack
-all-idle-keep s [] h = refl
-all-idle-keep s (c ∷ cs) h = all-idle-keep (result s c .state) cs (h .1) ∙ idle-keeps s c (h .0)
 
 -- ---- a right five-byte write altered in one to three bits, on any state and room
 
-pub altered-keeps : (s : State) (service factory sent heard : List ℕ) (room : ℕ) → Pair sent heard → Right sent → length sent ≡ 5 → 1 ≤ bitsApart sent heard → bitsApart sent heard ≤ 3
-    → transactOf s service factory false heard room .state .pack ≡ s .pack
+pub altered-keeps : AlteredKeeps
 unfolding transactOf
 altered-keeps s service factory sent heard room p r l n m = go (altered 0x16 sent heard p r l n m)
   where
@@ -68,7 +60,6 @@ altered-keeps s service factory sent heard room p r l n m = go (altered 0x16 sen
     go (inr e) = ap (λ (q : Request). packAfter (s .pack) q (answer s c)) e
 
 -- it changes no register but the error bits
-pub altered-registers : (s : State) (service factory sent heard : List ℕ) (room : ℕ) → Pair sent heard → Right sent → length sent ≡ 5 → 1 ≤ bitsApart sent heard → bitsApart sent heard ≤ 3
-    → SameRegisters s (transactOf s service factory false heard room .state)
+pub altered-registers : AlteredRegisters
 altered-registers s service factory sent heard room p r l n m =
     same-registers s (record { service = service; factory = factory; read = false; bytes = heard; room = room }) (altered-keeps s service factory sent heard room p r l n m)

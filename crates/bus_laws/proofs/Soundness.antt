@@ -2,17 +2,19 @@
 -- Assumes nothing.
 use Prim.Native.Nat.{ℕ, _≤_}
 use mathlib.Core.Bool.{Bool, true, false, cond, true≢false}
-use mathlib.Core.List.{List, [], _∷_}
 use mathlib.Core.Path.{_≡_, refl, sym}
 use native.Mathlib.Omega.{arith}
 use lib.Dec.{eqb}
-use Rattle.bus.specs.Transact.{codeAfter, bitSet, hostWritten, timersWritten, written, served, packAfter, asked, transactOf}
-use Rattle.bus_laws.specs.Calls.{Call, result, answer, after}
+use Rattle.bus.specs.Transact.{bitSet, hostWritten, timersWritten, packWritten, packAfter, asked, transactOf}
+use Rattle.bus_laws.specs.Calls.{answer}
+use Rattle.bus_laws.specs.Promises.{SoundStays}
+use Rattle.commands.specs.Answers.{codeAfter, served}
 use Rattle.frame.specs.declared.Request.{Request}
 use Rattle.frame.specs.declared.Request.the-variants.{Refused, Read, Write}
-use Rattle.pack.proofs.Soundness.{facts, sound-of, with-error}
-use Rattle.pack.specs.Sound.{soundOf}
-use Rattle.pack.specs.declared.Pack.{Pack}
+use Rattle.pack.proofs.Soundness.{timers-facts, timers-sound, parts, pack-sound, pack-of-sound, code-of-sound, sound-state, with-error}
+use Rattle.pack.specs.Sound.{timersSound, soundOf}
+use Rattle.pack.specs.declared.Host.{Host}
+use Rattle.pack.specs.declared.Timers.{Timers}
 use Rattle.pack.specs.declared.State.{State}
 
 either : (b : Bool) (x y : ℕ) → x ≤ 7 → y ≤ 7 → cond b x y ≤ 7
@@ -20,7 +22,7 @@ either true x y f g = f
 either false x y f g = g
 
 -- the table leaves a code of at most 7
-pub code-most : (n before : ℕ) → before ≤ 7 → codeAfter n before ≤ 7
+code-most : (n before : ℕ) → before ≤ 7 → codeAfter n before ≤ 7
 unfolding codeAfter
 code-most n before h =
     either (eqb n 0) _ _ (omega arith)
@@ -59,31 +61,32 @@ clear true true m t f h = absurd (true≢false h)
 clear true false m t f h = refl
 clear false b m t f h = f h
 
--- any write, with any code of at most 7
-written-sound : (s : State) (command word code : ℕ) → code ≤ 7 → soundOf s ≡ true → soundOf (record { error = code; pack = written (s .pack) command word }) ≡ true
-unfolding written hostWritten timersWritten
-written-sound s command word code l h =
-    let f = facts s h in
-    let p : Pack = s .pack in
-    let here : Bool = eqb command 3 in
-    sound-of _
+written-timers : (h : Host) (t : Timers) (command word : ℕ) → timersSound h t ≡ true → timersSound (hostWritten h command word) (timersWritten t command word) ≡ true
+unfolding hostWritten timersWritten
+written-timers h t command word e =
+    let f = timers-facts h t e in
+    let here : Bool = eqb command 0x03 in
+    timers-sound _ _
     (record {
-      design = f .design;
-      full = f .full;
-      voltage = f .voltage;
-      charge = f .charge;
-      some = f .some;
-      most = f .most;
-      hold = hold-most here (bitSet 13 word) (p .timers .hold) (f .hold);
+      hold = hold-most here (bitSet 13 word) (t .hold) (f .hold);
       alarm = f .alarm;
-      charger = charger-most here (bitSet 14 word) (p .timers .charger) (f .charger);
-      stands = stands here (bitSet 14 word) (p .host .ChargerMode) (p .timers .charger) (f .stands);
-      error = l;
-      ended = ended here (bitSet 13 word) (p .host .AlarmMode) (p .timers .hold) (f .ended);
-      clear = clear here (bitSet 13 word) (p .host .AlarmMode) (p .timers .hold) (f .clear);
+      charger = charger-most here (bitSet 14 word) (t .charger) (f .charger);
+      stands = stands here (bitSet 14 word) (h .ChargerMode) (t .charger) (f .stands);
+      ended = ended here (bitSet 13 word) (h .AlarmMode) (t .hold) (f .ended);
+      clear = clear here (bitSet 13 word) (h .AlarmMode) (t .hold) (f .clear);
     })
 
-pub sound-stays : (s : State) (c : Call) → soundOf s ≡ true → soundOf (result s c .state) ≡ true
+-- any write, with any code of at most 7
+written-sound : (s : State) (command word code : ℕ) → code ≤ 7 → soundOf s ≡ true → soundOf (record { error = code; pack = packWritten (s .pack) command word }) ≡ true
+unfolding packWritten
+written-sound s command word code l h =
+    let p = parts (s .pack) (pack-of-sound s h) in
+    sound-state _
+    (pack-sound _
+    (record { settings = p .settings; tank = p .tank; recent = p .recent; timers = written-timers (s .pack .host) (s .pack .timers) command word (p .timers) }))
+    l
+
+pub sound-stays : SoundStays
 unfolding transactOf
 sound-stays s c h = go (asked (c .read) (c .bytes))
   where
@@ -91,9 +94,9 @@ sound-stays s c h = go (asked (c .read) (c .bytes))
     code = codeAfter (answer s c) (s .error)
 
     small : code ≤ 7
-    small = code-most (answer s c) (s .error) (facts s h .error)
+    small = code-most (answer s c) (s .error) (code-of-sound s h)
 
-    by-write : (command word : ℕ) (v : Bool) → soundOf (record { error = code; pack = cond v (written (s .pack) command word) (s .pack) }) ≡ true
+    by-write : (command word : ℕ) (v : Bool) → soundOf (record { error = code; pack = cond v (packWritten (s .pack) command word) (s .pack) }) ≡ true
     by-write command word true = written-sound s command word code small h
     by-write command word false = with-error s code small h
 
@@ -101,8 +104,3 @@ sound-stays s c h = go (asked (c .read) (c .bytes))
     go (Refused n) = with-error s code small h
     go (Read command) = with-error s code small h
     go (Write command word checked) = by-write command word (served (answer s c))
-
--- any number of calls
-pub all-sound : (s : State) (cs : List Call) → soundOf s ≡ true → soundOf (after s cs) ≡ true
-all-sound s [] h = h
-all-sound s (c ∷ cs) h = all-sound (result s c .state) cs (sound-stays s c h)

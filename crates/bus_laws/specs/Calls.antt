@@ -1,23 +1,23 @@
--- Calls of `transact`, one and many.
+-- Calls of `transact`.
 -- Assumes nothing.
-use Prim.Native.Nat.{ℕ, _+_, _/_, _≤_, _<_}
+use Prim.Native.Nat.{ℕ, _+_, _/_, _<_}
 use mathlib.Core.Bool.{Bool, true, false, cond}
-use mathlib.Core.List.{List, [], _∷_, _++_}
+use mathlib.Core.List.{List, _++_}
 use mathlib.Core.Logic.{_⊎_}
 use mathlib.Core.Path.{_≡_}
 use lib.Dec.{eqb}
 use lib.ListN.{length}
-use Rattle.bus.specs.Commands.{kindOf}
-use Rattle.bus.specs.Transact.{served, bitSet, readBody, transactAnswer, transactReply, transactOf, roomAfter}
-use Rattle.bus.specs.declared.Kind.{Kind}
-use Rattle.bus.specs.declared.Kind.the-variants.{ReadWrite, ReadOnly, Block, Optional, Reserved}
+use Rattle.bus.specs.Transact.{packSide, bitSet, transactAnswer, transactReply, transactOf, replyRoom}
 use Rattle.bus.specs.declared.Transacted.{Transacted}
-use Rattle.frame.specs.Transactions.{readBytes, WriteBytes}
-use Rattle.gauge.proofs.Range.{Fits}
+use Rattle.commands.specs.Answers.{served}
+use Rattle.commands_laws.specs.Visits.{Visit}
+use Rattle.frame.specs.Transactions.{readBytes}
+use Rattle.frame_laws.specs.Requests.{WriteBytes}
 use Rattle.gauge.specs.Word.{wordOf}
+use Rattle.pack.specs.Fits.{PackFits}
 use Rattle.pack.specs.declared.State.{State}
-use Rattle.pec_laws.specs.Places.{Bytes}
 use Rattle.registers.specs.Registers.{bit}
+use Rattle.rooms.specs.Rooms.{Bytes}
 
 -- what is given beside the state: both sheets, the driver's mark and bytes, and the length of the lent reply room
 pub record Call : Type 0 where
@@ -36,27 +36,17 @@ answer s c = transactAnswer s (c .service) (c .factory) (c .read) (c .bytes) (c 
 abbrev pub reply : State → Call → List ℕ
 reply s c = transactReply s (c .service) (c .factory) (c .read) (c .bytes) (c .room)
 
--- what a served read shows: a block or a word
-abbrev pub body : State → Call → ℕ → List ℕ
-body s c command = readBody (kindOf command) s (c .service) (c .factory) command
+-- as a visit to the pack's side of the bus
+abbrev pub visit : State → Call → Visit
+visit s c = record { side = packSide s (c .service) (c .factory); read = c .read; bytes = c .bytes; room = c .room }
 
 -- a reader's exchange is what it sent followed by what it heard
 abbrev pub exchange : State → Call → List ℕ
 exchange s c = c .bytes ++ reply s c
 
--- the state after calls one after another
-abbrev pub after : State → List Call → State
-after s [] = s
-after s (c ∷ cs) = after (result s c .state) cs
-
 -- a read or a refused call
 abbrev pub Idle : State → Call → Type 0
 Idle s c = (c .read ≡ true) ⊎ (served (answer s c) ≡ false)
-
--- reads and refused calls only
-abbrev pub AllIdle : State → List Call → Type 0
-AllIdle s [] = Unit {0}
-AllIdle s (c ∷ cs) = Idle s c × AllIdle (result s c .state) cs
 
 -- a call that reads a command
 abbrev pub Reads : Call → ℕ → Type 0
@@ -76,25 +66,17 @@ abbrev pub keptWord : ℕ → ℕ → ℕ
 keptWord command word =
     cond (eqb command 0x03) (bit 13 (bitSet 13 word) + bit 14 (bitSet 14 word) + bit 15 (bitSet 15 word)) word
 
--- a block exchange has 5 to 37 bytes, a word exchange 6
-abbrev pub Lengths : Kind → ℕ → Type 0
-Lengths Block n = (5 ≤ n) × (n ≤ 37)
-Lengths ReadWrite n = n ≡ 6
-Lengths ReadOnly n = n ≡ 6
-Lengths Optional n = ⊥
-Lengths Reserved n = ⊥
-
 -- a served read of some command; the struct's fields, the sheets and the command hold what their types let them hold
 pub record Exchanged (s : State) (c : Call) : Type 0 where
   pub command : ℕ
   pub reads : Reads c command
   pub is-served : served (answer s c) ≡ true
   pub a-byte : command < 256
-  pub fits : Fits (s .pack)
+  pub fits : PackFits (s .pack)
   pub service : Bytes (c .service)
   pub factory : Bytes (c .factory)
 
 -- what the contract of `transact` says of its result and of the room's final content
 abbrev pub Allowed : State → List ℕ → List ℕ → Bool → List ℕ → List ℕ → Transacted → List ℕ → Type 0
 Allowed s service factory read bytes room r left =
-    (r ≡ transactOf s service factory read bytes (length room)) × (left ≡ roomAfter s service factory read bytes room)
+    (r ≡ transactOf s service factory read bytes (length room)) × (left ≡ replyRoom s service factory read bytes room)

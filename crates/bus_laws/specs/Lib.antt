@@ -1,2 +1,3 @@
 pub mod Calls
 pub mod Rows
+pub mod Promises

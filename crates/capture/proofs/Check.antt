@@ -1,6 +1,6 @@
 -- The test whether bytes are a capture, case by case, and what a capture's bytes then are. Assumes nothing.
 use mathlib.Core.Path.{_≡_, refl, sym, ap, _∙_}
-use mathlib.Core.Bool.{Bool, true, false, _&&_, and-false}
+use mathlib.Core.Bool.{true, false, _&&_, and-false, and-eq-true-iff}
 use mathlib.Core.List.{List}
 use Prim.Native.Nat.{ℕ, zero, suc, _+_, _-_, _*_, _≤_, _<_}
 use native.Mathlib.Numerals.{add-one}
@@ -8,12 +8,7 @@ use native.Mathlib.Omega.{arith}
 use lib.Dec.{leb, eqb}
 use lib.ListN.{length}
 use borrow.Author.Tests.{le-leb, lt-leb, eq-eqb, leb-true, eqb-true}
-use Rattle.capture.specs.Capture.{countIn, markIn, lengthIn, placeIn, rowsFit, isCapture}
-
--- the two sides of a conjunction
-pub both : (a b : Bool) → a && b ≡ true → (a ≡ true) × (b ≡ true)
-both true b e = (refl, e)
-both false b e = let z : _≡_ {A = ℕ} 0 1 = cc in absurd (omega arith)
+use Rattle.capture.specs.Capture.{fits, countIn, markIn, lengthIn, placeIn, rowsFit, isCapture}
 
 module _ (s : List ℕ) where
   pub place-start : 2 * countIn s + 1 ≡ placeIn s 0
@@ -71,11 +66,24 @@ pub record Facts (s : List ℕ) : Type 0 where
 pub facts : (s : List ℕ) → isCapture s ≡ true → Facts s
 unfolding isCapture
 facts s e =
-    let b = both (leb (countIn s) 255 && leb (placeIn s 0) (length s) && rowsFit s (countIn s)) (eqb (placeIn s (countIn s)) (length s)) e in
-    let c = both (leb (countIn s) 255 && leb (placeIn s 0) (length s)) (rowsFit s (countIn s)) (b .0) in
-    let d = both (leb (countIn s) 255) (leb (placeIn s 0) (length s)) (c .0) in
+    let b = and-eq-true-iff (leb (countIn s) 255 && leb (placeIn s 0) (length s) && rowsFit s (countIn s)) (eqb (placeIn s (countIn s)) (length s)) .0 e in
+    let c = and-eq-true-iff (leb (countIn s) 255 && leb (placeIn s 0) (length s)) (rowsFit s (countIn s)) .0 (b .0) in
+    let d = and-eq-true-iff (leb (countIn s) 255) (leb (placeIn s 0) (length s)) .0 (c .0) in
     let t = leb-true (placeIn s 0) (length s) (d .1) in
     record { byte = leb-true (countIn s) 255 (d .0); table = rw (← place-start s) at t; rows = c .1; end = eqb-true (placeIn s (countIn s)) (length s) (b .1) }
 
 pub is : (s : List ℕ) → Facts s → isCapture s ≡ true
 is s f = sym (told s (f .byte) (f .table) (f .rows)) ∙ eq-eqb _ _ (f .end)
+
+-- rows of up to 37 bytes each
+place-most : (s : List ℕ) (row : ℕ) → rowsFit s row ≡ true → placeIn s row ≤ 2 * countIn s + 1 + 37 * row
+unfolding placeIn rowsFit
+place-most s zero e = omega arith
+place-most s (suc row) e =
+    let a = and-eq-true-iff (rowsFit s row) (fits (markIn s row) (lengthIn s row)) .0 e in
+    let b = and-eq-true-iff (leb (markIn s row) 1) (leb (lengthIn s row) 37) .0 (a .1) in
+    omega (arith, place-most s row (a .0), leb-true (lengthIn s row) 37 (b .1))
+
+-- no capture is longer
+pub longest : (s : List ℕ) → isCapture s ≡ true → length s ≤ 1 + 255 * 39
+longest s e = let f = facts s e in omega (arith, place-most s (countIn s) (f .rows))

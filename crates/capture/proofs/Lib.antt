@@ -1,4 +1,2 @@
 pub mod Check
 pub mod Steps
-pub mod Exact
-pub mod Walked

@@ -1,6 +1,6 @@
 -- What stands at a row and a place, case by case. Assumes nothing.
 use mathlib.Core.Path.{_≡_, refl, sym, ap, _∙_}
-use mathlib.Core.Bool.{Bool, true, false, cond, _&&_}
+use mathlib.Core.Bool.{Bool, true, false, cond, _&&_, and-eq-true-iff}
 use mathlib.Core.List.{List, []}
 use Prim.Native.Nat.{ℕ, _+_, _-_, _*_, _≤_, _<_}
 use native.Mathlib.Omega.{arith}
@@ -10,8 +10,8 @@ use borrow.Author.Tests.{lt-ltb, le-ltb, le-leb, lt-leb, leb-true}
 use Rattle.capture.specs.declared.Step.{Step}
 use Rattle.capture.specs.declared.Step.the-variants.{Next, End, NotCapture}
 use Rattle.capture.specs.Capture.{isCapture, countIn, markIn, lengthIn}
-use Rattle.capture.specs.Walk.{openedOf, hasRow, stepAt, bodyAt, answerOf}
-use Rattle.capture.proofs.Check.{both, place-start}
+use Rattle.capture.specs.Walk.{openedOf, hasRow, stepAt, bodyAt}
+use Rattle.capture.proofs.Check.{place-start}
 
 module _ (s : List ℕ) where
   pub opened : (n : ℕ) → isCapture s ≡ true → n ≡ countIn s → record { answer = 0; rows = n; place = 2 * n + 1 } ≡ openedOf s
@@ -79,7 +79,7 @@ pub within : (s : List ℕ) (row place : ℕ) → Within (stepAt s row place) pl
 unfolding stepAt
 within s row place =
     within-cond (hasRow s row place) (isCapture s) (markIn s row) (row + 1) place (place + lengthIn s row) (length s)
-    (λ h. (omega arith, leb-true (place + lengthIn s row) (length s) (both (isCapture s && ltb row (countIn s)) (leb (place + lengthIn s row) (length s)) h .1)))
+    (λ h. (omega arith, leb-true (place + lengthIn s row) (length s) (and-eq-true-iff (isCapture s && ltb row (countIn s)) (leb (place + lengthIn s row) (length s)) .0 h .1)))
 
 module _ (s : List ℕ) (row place : ℕ) {t : Step} (is : t ≡ stepAt s row place) where
   pub body-shown : {m r p : ℕ} → t ≡ Next m r p → take (p - place) (drop place s) ≡ bodyAt s row place
@@ -96,14 +96,3 @@ module _ (s : List ℕ) (row place : ℕ) {t : Step} (is : t ≡ stepAt s row pl
   pub body-not : t ≡ NotCapture → [] ≡ bodyAt s row place
   unfolding stepAt
   body-not e = body-none s row place (not-has (hasRow s row place) (isCapture s) (markIn s row) (row + 1) (place + lengthIn s row) (sym is ∙ e))
-
--- a step's number is 14 exactly for bytes that aren't a capture
-pub step-answer : (s : List ℕ) (row place : ℕ) → answerOf (stepAt s row place) ≡ cond (isCapture s) 0 14
-unfolding stepAt
-step-answer s row place = by-cases (isCapture s) (ltb row (countIn s)) (leb (place + lengthIn s row) (length s)) (markIn s row) (row + 1) (place + lengthIn s row)
-  where
-    by-cases : (a b c : Bool) (m r p : ℕ) → answerOf (cond (a && b && c) (Next m r p) (cond a End NotCapture)) ≡ cond a 0 14
-    by-cases true true true m r p = refl
-    by-cases true true false m r p = refl
-    by-cases true false c m r p = refl
-    by-cases false b c m r p = refl

@@ -21,8 +21,8 @@ allFit [] = true
 allFit (r ∷ rows) = fits (r .mark) (length (r .body)) && allFit rows
 
 -- rows that a capture can have: their number is a byte, and each fits
-abbrev pub Fit : List Row → Type 0
-Fit rows = leb (length rows) 255 && allFit rows ≡ true
+abbrev pub RowsFit : List Row → Type 0
+RowsFit rows = leb (length rows) 255 && allFit rows ≡ true
 
 -- the rows of mark and length
 unfoldable pub tableOf : List Row → List ℕ
@@ -30,17 +30,17 @@ tableOf [] = []
 tableOf (r ∷ rows) = r .mark ∷ length (r .body) ∷ tableOf rows
 
 -- the bodies
-unfoldable pub bodiesOf : List Row → List ℕ
-bodiesOf [] = []
-bodiesOf (r ∷ rows) = r .body ++ bodiesOf rows
+unfoldable pub rowBodies : List Row → List ℕ
+rowBodies [] = []
+rowBodies (r ∷ rows) = r .body ++ rowBodies rows
 
 -- byte n, n rows of mark and length, then the bodies
 abbrev pub captureOf : List Row → List ℕ
-captureOf rows = length rows ∷ (tableOf rows ++ bodiesOf rows)
+captureOf rows = length rows ∷ (tableOf rows ++ rowBodies rows)
 
 -- the capture of some rows
 abbrev pub IsCapture : List ℕ → Type 0
-IsCapture s = (rows : List Row) × (Fit rows × (s ≡ captureOf rows))
+IsCapture s = (rows : List Row) × (RowsFit rows × (s ≡ captureOf rows))
 
 -- byte n
 abbrev pub countIn : List ℕ → ℕ

@@ -1,6 +1,6 @@
 // Captures: what bytes are one, its rows and its walk.
+use rooms::wide;
 ghost use mathlib.Core.Path.{_≡_};
-ghost use Prim.Native.Nat.{_<_};
 ghost use Rattle.capture.specs.Capture.{isCapture};
 ghost use Rattle.capture.specs.Walk.{openedOf, stepAt, bodyAt};
 
@@ -18,12 +18,6 @@ pub enum Step {
     // No such row, or no room for its body at the place.
     End,
     NotCapture,
-}
-
-fn wide(x: u8) -> usize
-    ensures { λ r. ⌜ (r ≡ x) × (r < 256) ⌝ }
-{
-    x as usize
 }
 
 // Whether bytes are a capture.

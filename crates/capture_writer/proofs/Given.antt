@@ -47,11 +47,6 @@ pub set-end : (room marks sizes : List ℕ) (at i : ℕ) → length marks ≤ i 
 unfolding interleaved
 set-end room marks sizes at i h = rw (drop-of-length-le marks h)
 
-pub byte-set : (bodies room : List ℕ) (at i : ℕ) → i < length bodies → sets (set room (at + i) (getD bodies i 0)) (at + (i + 1)) (drop (i + 1) bodies) ≡ sets room (at + i) (drop i bodies)
-byte-set bodies room at i h =
-    let one : at + (i + 1) ≡ suc (at + i) = omega arith in
-    rw (drop-cons bodies i 0 h, one, add-one)
-
 module _ (marks sizes bodies : List ℕ) where
   pub given-uneven : (length marks ≡ length sizes → ⊥) → false ≡ givenFit marks sizes bodies
   unfolding givenFit

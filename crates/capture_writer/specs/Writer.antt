@@ -1,10 +1,11 @@
 -- Writing a capture into a lent room. Assumes nothing: these are definitions.
 use mathlib.Core.Bool.{Bool, true, cond, _&&_}
-use mathlib.Core.List.{List, [], _∷_, _++_}
+use mathlib.Core.List.{List, [], _∷_}
 use Prim.Native.Nat.{ℕ, _+_}
 use lib.Dec.{leb, eqb}
 use lib.ListN.{length, take, drop}
-use Rattle.capture_writer.specs.declared.Wrote.{Wrote}
+use Rattle.rooms.specs.declared.Wrote.{Wrote}
+use Rattle.rooms.specs.Rooms.{placed, wrote}
 use Rattle.capture.specs.Capture.{Row, fits, captureOf}
 
 -- the rows that are given by their marks, their lengths and their bodies joined
@@ -33,28 +34,24 @@ unfoldable pub givenFit : List ℕ → List ℕ → List ℕ → Bool
 givenFit marks sizes bodies = eqb (length marks) (length sizes) && leb (length marks) 255 && pairsFit marks sizes && eqb (sum sizes) (length bodies)
 
 -- the bytes that a capture of so much takes
-abbrev pub asked : List ℕ → List ℕ → List ℕ → ℕ
-asked marks sizes bodies = 1 + length marks + length sizes + length bodies
+abbrev pub roomAsked : List ℕ → List ℕ → List ℕ → ℕ
+roomAsked marks sizes bodies = 1 + length marks + length sizes + length bodies
 
--- the capture written
-abbrev pub written : List ℕ → List ℕ → List ℕ → List ℕ
-written marks sizes bodies = captureOf (rowsGiven marks sizes bodies)
+-- the capture of the rows given
+abbrev pub captureGiven : List ℕ → List ℕ → List ℕ → List ℕ
+captureGiven marks sizes bodies = captureOf (rowsGiven marks sizes bodies)
 
 -- 2: the room is too short; 14: no rows of a capture; else 0
-abbrev pub answerTo : List ℕ → List ℕ → List ℕ → List ℕ → ℕ
-answerTo marks sizes bodies room = cond (leb (asked marks sizes bodies) (length room)) (cond (givenFit marks sizes bodies) 0 14) 2
+abbrev pub captureAnswer : List ℕ → List ℕ → List ℕ → List ℕ → ℕ
+captureAnswer marks sizes bodies room = cond (leb (roomAsked marks sizes bodies) (length room)) (cond (givenFit marks sizes bodies) 0 14) 2
 
 -- the answer, and the capture's length if it was written
-unfoldable pub wroteOf : List ℕ → List ℕ → List ℕ → List ℕ → Wrote
-wroteOf marks sizes bodies room =
-    cond (eqb (answerTo marks sizes bodies room) 0)
-    (record { answer = 0; length = length (written marks sizes bodies) })
-    (record { answer = answerTo marks sizes bodies room; length = 0 })
-
--- bytes at the front of a room; the rest stays
-abbrev pub front : List ℕ → List ℕ → List ℕ
-front bytes room = bytes ++ drop (length bytes) room
+unfoldable pub captureWrote : List ℕ → List ℕ → List ℕ → List ℕ → Wrote
+captureWrote marks sizes bodies room =
+    cond (eqb (captureAnswer marks sizes bodies room) 0)
+    (wrote 0 (length (captureGiven marks sizes bodies)))
+    (wrote (captureAnswer marks sizes bodies room) 0)
 
 -- the capture at the front; else all stays
-unfoldable pub roomAfter : List ℕ → List ℕ → List ℕ → List ℕ → List ℕ
-roomAfter marks sizes bodies room = cond (eqb (answerTo marks sizes bodies room) 0) (front (written marks sizes bodies) room) room
+unfoldable pub captureRoom : List ℕ → List ℕ → List ℕ → List ℕ → List ℕ
+captureRoom marks sizes bodies room = cond (eqb (captureAnswer marks sizes bodies room) 0) (placed (captureGiven marks sizes bodies) room) room

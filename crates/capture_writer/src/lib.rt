@@ -1,21 +1,13 @@
 // The writer of captures, for tools and tests.
+use rooms::Wrote;
+use rooms::put_bytes;
+use rooms::wide;
 ghost use mathlib.Core.Path.{_≡_};
-ghost use Prim.Native.Nat.{_+_, _*_, _<_, _≤_};
+ghost use Prim.Native.Nat.{_+_, _*_, _<_};
 ghost use lib.Dec.{leb};
 ghost use lib.ListN.{length};
 ghost use lib.Seq.{sets};
-ghost use Rattle.capture_writer.specs.Writer.{interleaved, givenFit, wroteOf, roomAfter};
-
-pub struct Wrote {
-    pub answer: u8,
-    pub length: usize,
-}
-
-fn wide(x: u8) -> usize
-    ensures { λ r. ⌜ (r ≡ x) × (r < 256) ⌝ }
-{
-    x as usize
-}
+ghost use Rattle.capture_writer.specs.Writer.{interleaved, givenFit, captureWrote, captureRoom};
 
 // Whether a room holds a first byte, marks, lengths and bodies, of so many bytes each.
 fn holds(room: usize, marks: usize, lengths: usize, bodies: usize) -> bool
@@ -75,22 +67,10 @@ fn put_rows(marks: &[u8], lengths: &[u8], room: &mut [u8])
     }
 }
 
-// The bodies, from a place of the room on.
-fn put_bodies(bodies: &[u8], room: &mut [u8], place: usize)
-    requires { ⌜ place + length (now bodies) ≤ length (now room) ⌝ }
-    ensures { λ _. ⌜ now (room .exit) ≡ sets (now (room .entry)) place (now (bodies .entry)) ⌝ }
-{
-    let mut i = 0;
-    while i < bodies.len() {
-        room[place + i] = bodies[i];
-        i += 1;
-    }
-}
-
 // The capture of the rows that marks, lengths and the joined bodies give, at the room's front.
 pub fn write_capture(marks: &[u8], lengths: &[u8], bodies: &[u8], room: &mut [u8]) -> Wrote
-    ensures { λ r. ⌜ r ≡ wroteOf (now (marks .entry)) (now (lengths .entry)) (now (bodies .entry)) (now (room .entry)) ⌝ }
-    ensures { λ _. ⌜ now (room .exit) ≡ roomAfter (now (marks .entry)) (now (lengths .entry)) (now (bodies .entry)) (now (room .entry)) ⌝ }
+    ensures { λ r. ⌜ r ≡ captureWrote (now (marks .entry)) (now (lengths .entry)) (now (bodies .entry)) (now (room .entry)) ⌝ }
+    ensures { λ _. ⌜ now (room .exit) ≡ captureRoom (now (marks .entry)) (now (lengths .entry)) (now (bodies .entry)) (now (room .entry)) ⌝ }
 {
     if !holds(room.len(), marks.len(), lengths.len(), bodies.len()) {
         return Wrote {
@@ -108,7 +88,7 @@ pub fn write_capture(marks: &[u8], lengths: &[u8], bodies: &[u8], room: &mut [u8
     let place = 2 * n + 1;
     room[0] = n as u8;
     put_rows(marks, lengths, room);
-    put_bodies(bodies, room, place);
+    put_bytes(room, place, bodies);
     Wrote {
         answer: 0,
         length: place + bodies.len(),

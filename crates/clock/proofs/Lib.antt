@@ -1,3 +1,2 @@
-pub mod Charge
 pub mod Sending
 pub mod Served

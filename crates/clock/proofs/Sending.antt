@@ -2,35 +2,41 @@
 -- Assumes nothing.
 use Prim.Native.Nat.{ℕ, _+_, _*_, _/_, _≤_}
 use mathlib.Core.Bool.{Bool, true, false, cond}
-use mathlib.Core.List.{[], _++_}
-use mathlib.Core.Path.{_≡_, refl, _∙_}
+use mathlib.Core.List.{List, [], _++_}
+use mathlib.Core.Path.{_≡_, refl, ap, _∙_}
 use native.Mathlib.Omega.{arith}
 use lib.ListN.{length, length-append}
+use lib.Seq.{sets}
 use Rattle.clock.specs.Broadcast.{alarmGoes, chargerGoes, alarmsOf, chargerWordsOf, broadcastOf, messagesOf}
 use Rattle.frame.specs.Broadcasts.{messageOf}
 use Rattle.gauge.specs.Status.{alarmWord, chargerAlarm, chargingCurrent}
 use Rattle.pack.specs.declared.Pack.{Pack}
+use Rattle.rooms.proofs.Rooms.{then}
+
+-- two writings in a row: where the second ends, and what the room holds
+pub in-a-row : (room : List ℕ) (at next : ℕ) (first second all : List ℕ) {after left : List ℕ} {ends : ℕ}
+    → after ≡ sets room at first → next ≡ at + length first → left ≡ sets after next second → ends ≡ next + length second → first ++ second ≡ all
+    → (ends ≡ at + length all) × (left ≡ sets room at all)
+in-a-row room at next first second all a n l s e =
+    (omega (arith, length-append first second, ap length e), l ∙ then room at next first second a n ∙ ap (sets room at) e)
 
 pub no-alarm : (p : Pack) → alarmGoes p ≡ false → alarmsOf p ≡ []
 unfolding alarmsOf
 no-alarm p h = simp h
 
-pub host-alarm : (p : Pack) → alarmGoes p ≡ true → chargerAlarm p ≡ false → alarmsOf p ≡ messageOf 0x10 0x16 (alarmWord p)
+pub alarms-are : (p : Pack) (word : ℕ) (charger : Bool) → alarmGoes p ≡ true → word ≡ alarmWord p → charger ≡ chargerAlarm p
+    → messageOf 0x10 0x16 word ++ cond charger (messageOf 0x12 0x16 word) [] ≡ alarmsOf p
 unfolding alarmsOf
-host-alarm p h n = simp (h, n)
-
-pub both-alarms : (p : Pack) → alarmGoes p ≡ true → chargerAlarm p ≡ true → alarmsOf p ≡ messageOf 0x10 0x16 (alarmWord p) ++ messageOf 0x12 0x16 (alarmWord p)
-unfolding alarmsOf
-both-alarms p h n = simp (h, n)
+alarms-are p word charger h e f = simp (h, e, f)
 
 pub no-words : (p : Pack) → chargerGoes p ≡ false → chargerWordsOf p ≡ []
 unfolding chargerWordsOf
 no-words p h = simp h
 
-pub both-words : (p : Pack) → chargerGoes p ≡ true
-    → chargerWordsOf p ≡ messageOf 0x12 0x14 (chargingCurrent p) ++ messageOf 0x12 0x15 (p .settings .ChargingVoltage)
+pub words-are : (p : Pack) (current : ℕ) → chargerGoes p ≡ true → current ≡ chargingCurrent p
+    → messageOf 0x12 0x14 current ++ messageOf 0x12 0x15 (p .settings .ChargingVoltage) ≡ chargerWordsOf p
 unfolding chargerWordsOf
-both-words p h = simp h
+words-are p current h e = simp (h, e)
 
 alarm-bytes : (a b : Bool) (w : ℕ) → length (cond a (messageOf 0x10 0x16 w ++ cond b (messageOf 0x12 0x16 w) []) []) ≡ 4 * cond a (1 + cond b 1 0) 0
 alarm-bytes true true w = refl

@@ -8,13 +8,13 @@ use lib.ListN.{length}
 use Rattle.clock.specs.Sample.{movedOf}
 use Rattle.clock.specs.declared.Sampled.{Sampled}
 use Rattle.frame.specs.Broadcasts.{messageOf}
-use Rattle.frame.specs.Transactions.{placed}
 use Rattle.gauge.specs.Status.{anyAlarm, chargerAlarm, alarmWord, chargingCurrent}
 use Rattle.pack.specs.Sound.{soundOf}
 use Rattle.pack.specs.declared.Pack.{Pack}
 use Rattle.pack.specs.declared.Sample.{Sample}
 use Rattle.pack.specs.declared.State.{State}
-use Rattle.pack.specs.declared.Timers.{Timers}
+use Rattle.rooms.specs.Rooms.{placed}
+use Rattle.timers.specs.Countdown.{restartedOf}
 
 -- alarms go when any of the bits is set, ALARM_MODE is clear and 10,000 ms have passed since the last alarm
 unfoldable pub alarmGoes : Pack → Bool
@@ -40,15 +40,6 @@ broadcastOf p = alarmsOf p ++ chargerWordsOf p
 abbrev pub messagesOf : Pack → ℕ
 messagesOf p = cond (alarmGoes p) (1 + cond (chargerAlarm p) 1 0) 0 + cond (chargerGoes p) 2 0
 
--- a timer restarts at 0 when its words go
-unfoldable pub restartedOf : Pack → Timers
-restartedOf p =
-    record {
-      hold = p .timers .hold;
-      alarm = cond (alarmGoes p) 0 (p .timers .alarm);
-      charger = cond (chargerGoes p) 0 (p .timers .charger);
-    }
-
 -- the pack after a sample
 unfoldable pub sampledOf : Pack → Sample → Pack
 sampledOf p s =
@@ -56,9 +47,9 @@ sampledOf p s =
       settings = movedOf p s .settings;
       host = movedOf p s .host;
       latest = movedOf p s .latest;
-      kept = movedOf p s .kept;
+      recent = movedOf p s .recent;
       tank = movedOf p s .tank;
-      timers = restartedOf (movedOf p s);
+      timers = restartedOf (movedOf p s .timers) (alarmGoes (movedOf p s)) (chargerGoes (movedOf p s));
     }
 
 -- a refused sample: everything as it was, the other numbers 0
@@ -83,8 +74,8 @@ sampleOf s sample room =
     (servedSample s sample))
 
 -- a refusal writes nothing; a broadcast is at the front and the rest of the room stays
-unfoldable pub roomAfter : State → Sample → List ℕ → List ℕ
-roomAfter s sample room =
+unfoldable pub broadcastRoom : State → Sample → List ℕ → List ℕ
+broadcastRoom s sample room =
     cond (not (soundOf s)) room
     (cond (ltb (length room) 16) room
     (placed (broadcastOf (movedOf (s .pack) sample)) room))

@@ -1,26 +1,18 @@
--- Charge is the fold, over all samples, of current × elapsed held between 0 and full, in integers.
+-- A sample adds current × elapsed to the charge, in integers, held between 0 and full.
 -- Assumes nothing.
 use Prim.Native.Nat.{ℕ, zero, suc, _+_, _-_, _*_, _<_, _≤_, min}
-use mathlib.Core.List.{List, [], _∷_}
 use mathlib.Core.Path.{_≡_, refl, ap, _∙_, sym}
-use native.Mathlib.Nat.{mul-le-mul-right}
 use native.Mathlib.Omega.{arith}
 use borrow.Author.Tests.{lt-ltb, le-ltb, le-leb, lt-leb}
 use lib.IntN.{ℤ, pos, negsuc, negℤ, subℕ, _+ℤ_, _*ℤ_}
 use mir.Syntax.{w16}
 use mir.Val.{toZ, ofZ, SFits}
 use mir.ValLaws.{toZ-ofZ}
-use Rattle.clock.proofs.Charge.{charge-held}
-use Rattle.clock.specs.Broadcast.{sampledOf}
-use Rattle.clock.specs.Sample.{elapsedOf, chargeAfter, movedOf}
-use Rattle.clock_laws.specs.Promises.{ChargeSinceSetUp}
-use Rattle.clock_laws.specs.Run.{runOf, heldTo, chargeOver, Signed16}
-use Rattle.clock_laws.proofs.Cases.{split}
-use Rattle.pack.proofs.Conditions.{served}
-use Rattle.pack.specs.SetUp.{packOf}
-use Rattle.pack.specs.declared.Pack.{Pack}
-use Rattle.pack.specs.declared.Sample.{Sample}
-use Rattle.words.specs.Capacity.{milliampMs}
+use Rattle.tank.specs.Charge.{chargeAfter}
+use Rattle.clock_laws.specs.Promises.{ChargeTrue}
+use Rattle.clock_laws.specs.Steps.{heldTo}
+use Rattle.words.proofs.Integers.{split}
+use Rattle.capacity.specs.Capacity.{milliampMs}
 
 -- a number of 0 or above is held to the top
 held-up : (top n : ℕ) → pos (min top n) ≡ heldTo (pos top) (pos n)
@@ -38,8 +30,8 @@ minus : (c m : ℕ) → subℕ c m ≡ pos c +ℤ negℤ (pos m)
 minus c zero = simp (le-ltb c 0 (omega arith)) (ap pos (omega arith))
 minus c (suc m) = refl
 
--- one sample
-pub charge-step : (charge full word elapsed : ℕ) → word < 65536 → charge ≤ milliampMs full
+-- by the word of the current
+charge-step : (charge full word elapsed : ℕ) → word < 65536 → charge ≤ milliampMs full
     → pos (chargeAfter charge full word elapsed) ≡ heldTo (pos (milliampMs full)) (pos charge +ℤ toZ w16 word *ℤ pos elapsed)
 charge-step charge full word elapsed w l =
     split word 32768
@@ -56,20 +48,8 @@ word-fits : (z : ℤ) → SFits w16 z → ofZ w16 z < 65536
 word-fits (pos n) f = let h : n < 32768 = f .sfits in omega arith
 word-fits (negsuc n) f = omega arith
 
--- over a run, from any charge up to full
-pub charge-run : (p : Pack) (xs : List Sample) → p .tank .charge ≤ milliampMs (p .tank .full) → Signed16 xs
-    → pos (runOf p xs .tank .charge) ≡ chargeOver (p .tank .full) (pos (p .tank .charge)) (p .latest .counter) xs
-unfolding sampledOf movedOf
-charge-run p [] l f = refl
-charge-run p (x ∷ xs) l (f, fs) =
-    let e = elapsedOf (x .counter) (p .latest .counter) in
-    let word = ofZ w16 (x .current) in
-    charge-run (sampledOf p x) xs (charge-held (p .tank .charge) (p .tank .full) word e l) fs
-    ∙ ap (λ (c : ℤ). chargeOver (p .tank .full) c (x .counter) xs)
-    (charge-step (p .tank .charge) (p .tank .full) word e (word-fits (x .current) f) l
-    ∙ ap (λ (z : ℤ). heldTo (pos (milliampMs (p .tank .full))) (pos (p .tank .charge) +ℤ z *ℤ pos e)) (toZ-ofZ w16 (x .current) f))
-
--- since a served set-up: from its remaining capacity on
-pub charge-since-set-up : ChargeSinceSetUp
-unfolding packOf
-charge-since-set-up u first xs h f = charge-run (packOf u first) xs (mul-le-mul-right 3600000 (served u h .remaining)) f
+-- a sample adds current × elapsed, held between 0 and full
+pub charge-true : ChargeTrue
+charge-true charge full elapsed x f l =
+    charge-step charge full (ofZ w16 (x .current)) elapsed (word-fits (x .current) f) l
+    ∙ ap (λ (z : ℤ). heldTo (pos (milliampMs full)) (pos charge +ℤ z *ℤ pos elapsed)) (toZ-ofZ w16 (x .current) f)

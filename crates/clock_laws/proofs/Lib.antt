@@ -1,10 +1,5 @@
-pub mod Cases
-pub mod Steps
+pub mod Timers
 pub mod Sound
 pub mod Elapsed
-pub mod Kept
 pub mod Charge
-pub mod Alarms
-pub mod Apart
-pub mod Modes
 pub mod Sent

@@ -8,12 +8,12 @@ use native.Mathlib.Omega.{arith}
 use lib.Dec.{ltb}
 use lib.ListN.{length, drop}
 use Rattle.clock.proofs.Sending.{four-each, at-most-16}
-use Rattle.clock.specs.Broadcast.{broadcastOf, sampleOf, servedSample, refusedSample, roomAfter}
+use Rattle.clock.specs.Broadcast.{broadcastOf, sampleOf, servedSample, refusedSample, broadcastRoom}
 use Rattle.clock.specs.Sample.{movedOf}
 use Rattle.clock_laws.specs.Promises.{FourBytesEach, SixteenAtMost, RestStays}
 use Rattle.clock_laws.proofs.Sound.{outcome}
-use Rattle.frame.proofs.Rooms.{placed-rest}
-use Rattle.frame.specs.Transactions.{placed}
+use Rattle.rooms.proofs.Rooms.{placed-rest}
+use Rattle.rooms.specs.Rooms.{placed}
 use Rattle.pack.specs.Sound.{soundOf}
 use Rattle.pack.specs.declared.Sample.{Sample}
 use Rattle.pack.specs.declared.State.{State}
@@ -37,5 +37,5 @@ stays s x room false false = placed-rest (broadcastOf (movedOf (s .pack) x)) roo
 
 -- bytes past them in the room stay
 pub rest-stays : RestStays
-unfolding sampleOf roomAfter
+unfolding sampleOf broadcastRoom
 rest-stays s x room = stays s x room (not (soundOf s)) (ltb (length room) 16)

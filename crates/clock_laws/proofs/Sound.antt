@@ -2,23 +2,22 @@
 -- Assumes nothing.
 use Prim.Native.Nat.{ℕ, _+_, _-_, _≤_, min}
 use mathlib.Core.Bool.{Bool, true, false, cond, not, _&&_}
-use mathlib.Core.List.{List, [], _∷_}
-use mathlib.Core.Path.{_≡_, refl, ap, _∙_}
+use mathlib.Core.Path.{_≡_, refl}
 use native.Mathlib.Omega.{arith}
-use borrow.Author.Tests.{eq-eqb, eqb-true, le-ltb, leb-false, not-false}
+use borrow.Author.Tests.{eq-eqb, eqb-true, leb-false, not-false}
 use lib.Dec.{eqb, leb, ltb}
-use Rattle.clock.proofs.Charge.{charge-held}
-use Rattle.clock.specs.Broadcast.{alarmGoes, chargerGoes, restartedOf, sampledOf, sampleOf, servedSample, refusedSample}
+use Rattle.tank.proofs.Charge as tank
+use Rattle.clock.specs.Broadcast.{alarmGoes, chargerGoes, sampledOf, sampleOf, servedSample, refusedSample}
 use Rattle.clock.specs.Sample.{elapsedOf, movedOf}
 use Rattle.clock.specs.declared.Sampled.{Sampled}
-use Rattle.clock_laws.specs.Promises.{SampleSound, ErrorStays, CallsRun}
-use Rattle.clock_laws.specs.Run.{runOf, stateAfter}
-use Rattle.clock_laws.proofs.Cases.{no-more}
-use Rattle.pack.proofs.Soundness.{facts, sound-of}
+use Rattle.clock_laws.specs.Promises.{SampleSound, ErrorStays}
+use Rattle.clock_laws.proofs.Timers.{no-more}
+use Rattle.pack.proofs.Soundness.{timers-facts, timers-sound, parts, pack-sound, pack-of-sound, code-of-sound, sound-state}
 use Rattle.pack.specs.SetUp.{latestOf}
 use Rattle.pack.specs.Sound.{soundOf}
 use Rattle.pack.specs.declared.Sample.{Sample}
 use Rattle.pack.specs.declared.State.{State}
+use Rattle.recent.proofs.Soundness as recent
 
 -- a timer that restarts where it reaches its mark stays below it
 below-mark : (b : Bool) (timer mark : ℕ) → leb mark timer ≡ b → cond b 0 timer ≤ mark - 1
@@ -44,27 +43,30 @@ off-bit false hold left c l h = omega (arith, c refl)
 
 -- an accepted sample leaves a sound state
 pub sampled-sound : (s : State) (x : Sample) → soundOf s ≡ true → soundOf (record { error = s .error; pack = sampledOf (s .pack) x }) ≡ true
-unfolding sampledOf movedOf restartedOf chargerGoes
+unfolding sampledOf movedOf chargerGoes
 sampled-sound s x h =
-    let f = facts s h in
+    let f = parts (s .pack) (pack-of-sound s h) in
+    let m = timers-facts (s .pack .host) (s .pack .timers) (f .timers) in
     let e = elapsedOf (x .counter) (s .pack .latest .counter) in
     let t = s .pack .timers in
-    sound-of _
+    sound-state _
+    (pack-sound _
     (record {
-      design = f .design;
-      full = f .full;
-      voltage = f .voltage;
-      charge = charge-held (s .pack .tank .charge) (s .pack .tank .full) (latestOf x .current) e (f .charge);
-      some = omega (arith, f .some);
-      most = omega arith;
-      hold = omega (arith, f .hold);
-      alarm = omega (arith, no-more (alarmGoes (movedOf (s .pack) x)) (min 10000 (t .alarm + e)));
-      charger = charger-low (s .pack .host .ChargerMode) (min 30000 (t .charger + e));
-      stands = λ m. stood (chargerGoes (movedOf (s .pack) x)) (s .pack .host .ChargerMode) (min 30000 (t .charger + e)) m;
-      error = f .error;
-      ended = λ z. bit-off (s .pack .host .AlarmMode) (t .hold - e) z;
-      clear = λ z. off-bit (s .pack .host .AlarmMode) (t .hold) (t .hold - e) (f .clear) (omega arith) z;
-    })
+      settings = f .settings;
+      tank = tank.after-sound (s .pack .tank) (latestOf x .current) e (f .tank);
+      recent = recent.after-sound (s .pack .recent) (latestOf x .current);
+      timers =
+          timers-sound _ _
+          (record {
+            hold = omega (arith, m .hold);
+            alarm = omega (arith, no-more (alarmGoes (movedOf (s .pack) x)) (min 10000 (t .alarm + e)));
+            charger = charger-low (s .pack .host .ChargerMode) (min 30000 (t .charger + e));
+            stands = λ on. stood (chargerGoes (movedOf (s .pack) x)) (s .pack .host .ChargerMode) (min 30000 (t .charger + e)) on;
+            ended = λ z. bit-off (s .pack .host .AlarmMode) (t .hold - e) z;
+            clear = λ z. off-bit (s .pack .host .AlarmMode) (t .hold) (t .hold - e) (m .clear) (omega arith) z;
+          });
+    }))
+    (code-of-sound s h)
 
 -- what holds of a refusal and of a served sample holds of every sample
 module _ (P : Sampled → Type 0) (s : State) (x : Sample) (n : ℕ) (refused : (answer : ℕ) → P (refusedSample answer s)) (served : soundOf s ≡ true → P (servedSample s x)) where
@@ -87,20 +89,3 @@ sample-sound s x n h = outcome (λ r. soundOf (r .state) ≡ true) s x n (λ ans
 -- the error code stays
 pub error-stays : ErrorStays
 error-stays s x n = outcome (λ r. r .state .error ≡ s .error) s x n (λ answer. refl) (λ h. refl)
-
--- a sample on a sound state with room enough is accepted: the step of a run
-pub accepted : (s : State) (x : Sample) (n : ℕ) → soundOf s ≡ true → 16 ≤ n → sampleOf s x n ≡ servedSample s x
-unfolding sampleOf
-accepted s x n h l = simp (h, le-ltb n 16 l)
-
--- a run leaves a sound state
-pub run-sound : (s : State) (xs : List Sample) → soundOf s ≡ true → soundOf (record { error = s .error; pack = runOf (s .pack) xs }) ≡ true
-run-sound s [] h = h
-run-sound s (x ∷ xs) h = run-sound (record { error = s .error; pack = sampledOf (s .pack) x }) xs (sampled-sound s x h)
-
--- samples called one after another on a sound state, with room enough, are a run
-pub calls-run : CallsRun
-calls-run n s [] h l = refl
-calls-run n s (x ∷ xs) h l =
-    ap (λ (r : Sampled). stateAfter n (r .state) xs) (accepted s x n h l)
-    ∙ calls-run n (record { error = s .error; pack = sampledOf (s .pack) x }) xs (sampled-sound s x h) l

@@ -7,8 +7,8 @@ use lib.IntN.{pos, negsuc}
 use lib.ListN.{replicate}
 use mir.Syntax.{w16}
 use mir.Val.{ofZ}
-use Rattle.average.specs.Average.{averageOf}
-use Rattle.bus.specs.Transact.{written}
+use Rattle.recent.specs.Recent.{averageOf}
+use Rattle.bus.specs.Transact.{packWritten}
 use Rattle.clock.specs.Sample.{elapsedOf}
 use Rattle.gauge.specs.Word.{wordOf}
 use Rattle.key.specs.Key.{keyOf, dateWord}
@@ -46,7 +46,7 @@ halfFull =
 
 -- the word of a command after a word was written to another
 abbrev after : ℕ → ℕ → ℕ → ℕ
-after to word command = wordOf (record { error = 0; pack = written halfFull to word }) command
+after to word command = wordOf (record { error = 0; pack = packWritten halfFull to word }) command
 
 -- the table, in document 01's order and numbers
 unfoldable pub examples : List Example
@@ -69,5 +69,5 @@ examples =
     ∷ []
 
 -- the two columns are equal
-abbrev pub Right : Type 0
-Right = map (λ (e : Example). e .computed) examples ≡ map (λ (e : Example). e .expected) examples
+abbrev pub AsExpected : Type 0
+AsExpected = map (λ (e : Example). e .computed) examples ≡ map (λ (e : Example). e .expected) examples

@@ -1,12 +1,10 @@
 -- Document 01, Answer numbers 3 to 5 and Transactions, for any address, given by its write byte: for the pack 0x16.
 -- Assumes nothing.
 use Prim.Native.Nat.{ℕ, _+_}
-use mathlib.Core.Path.{_≡_}
-use mathlib.Core.Logic.{_⊎_}
-use mathlib.Core.Bool.{Bool, true, false, cond, _&&_, _||_, not}
+use mathlib.Core.Bool.{Bool, cond, _&&_, _||_, not}
 use mathlib.Core.List.{List, [], _∷_, _++_}
 use lib.Dec.{eqb}
-use lib.ListN.{length, getD, drop}
+use lib.ListN.{length, getD}
 use Rattle.words.specs.Words.{lowOf, highOf, joined}
 use Rattle.pec.specs.Pec.{pecOf}
 use Rattle.pec.specs.Messages.{endsInPec}
@@ -57,18 +55,6 @@ requestOf address read bytes =
     (cond (miscoded read bytes) (Refused 5)
     (cond read (Read (getD bytes 1 0)) (writeOf bytes (eqb (length bytes) 5)))))
 
--- a refusal's number is the lowest of the three whose condition holds
-abbrev pub Lowest : Bool → Bool → Bool → ℕ → Type 0
-Lowest three four five n =
-    ((n ≡ 3) × (three ≡ true))
-    ⊎ (((n ≡ 4) × (three ≡ false) × (four ≡ true)) ⊎ ((n ≡ 5) × (three ≡ false) × (four ≡ false) × (five ≡ true)))
-
--- the bytes of a write of a word, checked or not
-abbrev pub WriteBytes : ℕ → ℕ → ℕ → Bool → List ℕ → Type 0
-WriteBytes address command word checked bytes =
-    (low : ℕ) × (high : ℕ) × (word ≡ joined low high)
-    × (bytes ≡ cond checked (withPec (writeBytes address command low high)) (writeBytes address command low high))
-
 -- word replies are low byte first
 abbrev pub wordBody : ℕ → List ℕ
 wordBody w = lowOf w ∷ highOf w ∷ []
@@ -80,11 +66,3 @@ blockBody text = length text ∷ text
 -- every reply ends in PEC over request and reply
 unfoldable pub replyOf : List ℕ → List ℕ → List ℕ
 replyOf request body = body ++ pecOf (request ++ body) ∷ []
-
--- a reader's exchange is what it sent followed by what it heard
-abbrev pub exchangeOf : List ℕ → List ℕ → List ℕ
-exchangeOf request body = request ++ replyOf request body
-
--- bytes at the front of a room; the rest of the room stays
-abbrev pub placed : List ℕ → List ℕ → List ℕ
-placed bytes room = bytes ++ drop (length bytes) room

@@ -4,8 +4,9 @@ ghost use mathlib.Core.Path.{_≡_};
 ghost use Prim.Native.Nat.{_+_, _≤_, _<_};
 ghost use lib.ListN.{length};
 ghost use lib.Seq.{sets};
-ghost use Rattle.frame.specs.Transactions.{requestOf, writeOf, replyOf, wordBody, blockBody, placed};
+ghost use Rattle.frame.specs.Transactions.{requestOf, writeOf, replyOf, wordBody, blockBody};
 ghost use Rattle.frame.specs.Broadcasts.{messageOf};
+ghost use Rattle.rooms.specs.Rooms.{placed};
 
 // What the driver's bytes and mark ask for; or the answer 3, 4 or 5.
 pub enum Request {
@@ -90,8 +91,8 @@ pub fn put_block(room: &mut [u8], request: &[u8], text: &[u8]) -> usize
     let start = pec::pec(request);
     let check = pec::pec_from(pec::pec_from(start, &[count]), text);
     room[0] = count;
+    rooms::put_bytes(room, 1, text);
     room[last] = check;
-    bytes::copy(text, &mut room[1..]);
     n + 2
 }
 
@@ -103,9 +104,6 @@ pub fn put_message(room: &mut [u8], at: usize, address: u8, command: u8, word: u
 {
     let low = words::low(word);
     let high = words::high(word);
-    room[at] = address;
-    room[at + 1] = command;
-    room[at + 2] = low;
-    room[at + 3] = high;
+    rooms::put_bytes(room, at, &[address, command, low, high]);
     at + 4
 }

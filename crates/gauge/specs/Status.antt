@@ -5,7 +5,7 @@ use mathlib.Core.Bool.{Bool, true, false, cond, not, _&&_, _||_}
 use lib.Dec.{ltb, eqb}
 use Rattle.pack.specs.declared.Pack.{Pack}
 use Rattle.registers.specs.Registers.{bit, remainingCapacity, averageTimeToEmpty}
-use Rattle.words.specs.Capacity.{milliampMs}
+use Rattle.capacity.specs.Capacity.{milliampMs}
 use Rattle.words.specs.Words.{above, below}
 
 -- 15 OVER_CHARGED: 0 (house)

@@ -1,11 +1,12 @@
--- Each read-word command 00 to 1C and its word.
+-- Each read-word command 00 to 1C, its word and its answer.
 -- Assumes nothing.
 use Prim.Native.Nat.{ℕ}
-use mathlib.Core.Bool.{cond}
+use mathlib.Core.Bool.{cond, _&&_}
 use lib.Dec.{eqb}
-use Rattle.average.specs.Average.{averageOf}
+use Rattle.recent.specs.Recent.{averageOf}
 use Rattle.registers.specs.Registers.{batteryMode, remainingCapacity, fullChargeCapacity, designCapacity, relativeStateOfCharge, absoluteStateOfCharge, atRateTimeToEmpty, atRateTimeToFull, atRateOK, runTimeToEmpty, averageTimeToEmpty, averageTimeToFull}
 use Rattle.gauge.specs.Status.{batteryStatus, chargingCurrent}
+use Rattle.gauge.specs.declared.Shown.{Shown}
 use Rattle.pack.specs.declared.State.{State}
 
 -- the word of a command; 0 for a command that has none
@@ -22,7 +23,7 @@ wordOf s command =
     (cond (eqb command 0x08) (s .pack .latest .temperature)
     (cond (eqb command 0x09) (s .pack .latest .voltage)
     (cond (eqb command 0x0A) (s .pack .latest .current)
-    (cond (eqb command 0x0B) (averageOf (s .pack .kept))
+    (cond (eqb command 0x0B) (averageOf (s .pack .recent))
     (cond (eqb command 0x0C) (s .pack .settings .MaxError)
     (cond (eqb command 0x0D) (relativeStateOfCharge (s .pack))
     (cond (eqb command 0x0E) (absoluteStateOfCharge (s .pack))
@@ -41,3 +42,11 @@ wordOf s command =
     (cond (eqb command 0x1B) (s .pack .settings .ManufactureDate)
     (cond (eqb command 0x1C) (s .pack .settings .SerialNumber)
     0))))))))))))))))))))))))))))
+
+-- 10: AtRateTimeToFull in power mode; every other word read is answered 0
+abbrev pub wordAnswer : State → ℕ → ℕ
+wordAnswer s command = cond (eqb command 0x05 && s .pack .host .CapacityMode) 10 0
+
+-- the answer and the word
+abbrev pub shownOf : State → ℕ → Shown
+shownOf s command = record { answer = wordAnswer s command; word = wordOf s command }

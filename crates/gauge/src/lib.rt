@@ -3,19 +3,24 @@ ghost use mathlib.Core.Path.{_≡_};
 ghost use mathlib.Core.Bool.{true};
 ghost use Prim.Native.Nat.{_≤_};
 ghost use Rattle.gauge.specs.Status.{chargeFull, overTemp, terminateCharge, terminateDischarge, remainingCapacityLow, remainingTimeLow, discharging, statusBits, batteryStatus, alarmWord, chargingCurrent, chargerAlarm, anyAlarm};
-ghost use Rattle.average.specs.Average.{averageOf};
-ghost use Rattle.gauge.specs.Word.{wordOf};
-ghost use Rattle.pack.specs.Sound.{soundOf};
-ghost use Rattle.registers.specs.Registers.{Measured, batteryMode};
-ghost use Rattle.words.specs.Capacity.{milliampMs};
+ghost use Rattle.recent.specs.Recent.{recentSound, averageOf};
+ghost use Rattle.gauge.specs.Word.{wordOf, wordAnswer, shownOf};
+ghost use Rattle.pack.specs.Sound.{tankSound, soundOf};
+ghost use Rattle.registers.specs.Registers.{batteryMode};
 use pack::Pack;
 use pack::State;
+
+// What a word read gives: its answer, 0 or 10, and its word.
+pub struct Shown {
+    pub answer: u8,
+    pub word: u16,
+}
 
 // Bit 5.
 fn charge_full(p: Pack) -> bool
     ensures { λ r. ⌜ r ≡ chargeFull p ⌝ }
 {
-    p.tank.charge == words::milliamp_ms(p.tank.full)
+    p.tank.charge == capacity::milliamp_ms(p.tank.full)
 }
 
 // Bit 12.
@@ -41,7 +46,7 @@ fn terminate_discharge(p: Pack) -> bool
 
 // Bit 9.
 fn remaining_capacity_low(p: Pack) -> bool
-    requires { ⌜ p .tank .charge ≤ milliampMs (p .tank .full) ⌝ }
+    requires { ⌜ tankSound (p .tank) ≡ true ⌝ }
     ensures { λ r. ⌜ r ≡ remainingCapacityLow p ⌝ }
 {
     let limit = p.host.RemainingCapacityAlarm;
@@ -50,7 +55,7 @@ fn remaining_capacity_low(p: Pack) -> bool
 
 // Bit 8.
 fn remaining_time_low(p: Pack) -> bool
-    requires { ⌜ Measured p ⌝ }
+    requires { ⌜ (tankSound (p .tank) ≡ true) × (recentSound (p .recent) ≡ true) ⌝ }
     ensures { λ r. ⌜ r ≡ remainingTimeLow p ⌝ }
 {
     let limit = p.host.RemainingTimeAlarm;
@@ -66,7 +71,7 @@ fn discharging_now(p: Pack) -> bool
 
 // 16 without its error code; bits 15, 13 and 10 are 0.
 fn status_bits(p: Pack) -> u16
-    requires { ⌜ Measured p ⌝ }
+    requires { ⌜ (tankSound (p .tank) ≡ true) × (recentSound (p .recent) ≡ true) ⌝ }
     ensures is { λ r. ⌜ r ≡ statusBits p ⌝ }
     ensures small { λ r. ⌜ r ≤ 23536 ⌝ }
 {
@@ -90,8 +95,8 @@ fn status_bits(p: Pack) -> u16
 }
 
 // 16 BatteryStatus.
-pub fn status(p: Pack, code: u8) -> u16
-    requires { ⌜ Measured p ⌝ }
+fn status(p: Pack, code: u8) -> u16
+    requires { ⌜ (tankSound (p .tank) ≡ true) × (recentSound (p .recent) ≡ true) ⌝ }
     ensures { λ r. ⌜ r ≡ batteryStatus p code ⌝ }
 {
     status_bits(p) + (code as u16)
@@ -99,7 +104,7 @@ pub fn status(p: Pack, code: u8) -> u16
 
 // The word of an AlarmWarning.
 pub fn alarm_word(p: Pack) -> u16
-    requires { ⌜ Measured p ⌝ }
+    requires { ⌜ (tankSound (p .tank) ≡ true) × (recentSound (p .recent) ≡ true) ⌝ }
     ensures { λ r. ⌜ r ≡ alarmWord p ⌝ }
 {
     status(p, 15)
@@ -124,7 +129,7 @@ pub fn charger_alarm(p: Pack) -> bool
 
 // Whether any alarm bit is set.
 pub fn any_alarm(p: Pack) -> bool
-    requires { ⌜ Measured p ⌝ }
+    requires { ⌜ (tankSound (p .tank) ≡ true) × (recentSound (p .recent) ≡ true) ⌝ }
     ensures { λ r. ⌜ r ≡ anyAlarm p ⌝ }
 {
     charger_alarm(p) | terminate_discharge(p) | remaining_capacity_low(p) | remaining_time_low(p)
@@ -140,15 +145,15 @@ fn mode(p: Pack) -> u16
 
 // 0B AverageCurrent.
 fn mean(p: Pack) -> u16
-    requires { ⌜ Measured p ⌝ }
-    ensures { λ r. ⌜ r ≡ averageOf (p .kept) ⌝ }
+    requires { ⌜ recentSound (p .recent) ≡ true ⌝ }
+    ensures { λ r. ⌜ r ≡ averageOf (p .recent) ⌝ }
 {
-    let kept = p.kept;
-    average::average(kept)
+    let recent = p.recent;
+    recent::average(recent)
 }
 
 // The word of a read-word command; 0 for a command that has none.
-pub fn word(s: State, command: u8) -> u16
+fn word(s: State, command: u8) -> u16
     requires { ⌜ soundOf s ≡ true ⌝ }
     ensures { λ r. ⌜ r ≡ wordOf s command ⌝ }
 {
@@ -184,5 +189,28 @@ pub fn word(s: State, command: u8) -> u16
         0x1B => p.settings.ManufactureDate,
         0x1C => p.settings.SerialNumber,
         _ => 0,
+    }
+}
+
+// The answer of a word read: in power mode AtRateTimeToFull has no minutes.
+fn word_answer(s: State, command: u8) -> u8
+    ensures { λ r. ⌜ r ≡ wordAnswer s command ⌝ }
+{
+    if (command == 0x05) & s.pack.host.CapacityMode {
+        return 10;
+    }
+    0
+}
+
+// The answer and the word of a read-word command.
+pub fn show(s: State, command: u8) -> Shown
+    requires { ⌜ soundOf s ≡ true ⌝ }
+    ensures { λ r. ⌜ r ≡ shownOf s command ⌝ }
+{
+    let answer = word_answer(s, command);
+    let word = word(s, command);
+    Shown {
+        answer: answer,
+        word: word,
     }
 }

@@ -1,49 +1,21 @@
 -- The laws of reading a key: where its names end, and that bytes which are read as four parts are the key of these. Assumes nothing.
 use mathlib.Core.Path.{_≡_, refl, sym, ap, _∙_, subst}
-use mathlib.Core.Bool.{Bool, true, false, cond, _&&_}
+use mathlib.Core.Bool.{Bool, true, false, cond, _&&_, and-eq-true-iff}
 use mathlib.Core.List.{List, [], _∷_, _++_, append-assoc}
 use mathlib.Core.Option.{Option, none, some}
 use Prim.Native.Nat.{ℕ, _+_, _-_, _≤_, _<_}
+use native.Mathlib.Nat.{zero-add}
 use native.Mathlib.Omega.{arith}
 use lib.Dec.{leb}
 use lib.ListN.{length, take, drop, length-append, length-drop}
 use lib.Seq.{drop-drop, drop-at, take-append-seam}
-use borrow.Author.Tests.{le-leb, lt-leb, leb-true}
-use Rattle.key.specs.declared.Scan.{Scan}
-use Rattle.key.specs.declared.Scan.the-variants.{Refused, End, Stroke}
+use borrow.Author.Tests.{le-leb, leb-true}
 use Rattle.key.specs.declared.Found.{Found}
-use Rattle.key.specs.Key.{escape, hexWord, keyOf, keyOfParts, Name, bad, ended, stopped, readPlain, Parts, Fit, afterMaker, afterDevice, readKey, readOf, makerOf, deviceOf, isWords, wordOf}
-use Rattle.key.specs.Steps.{placed, strokeOf, foundOf}
+use Rattle.key.specs.Key.{escape, hexWord, keyOf, keyOfParts, Name, bad, ended, stopped, readPlain, Parts, PartsFit, afterMaker, afterDevice, readKey, readOf, makerOf, deviceOf, isWords, digitsWord}
+use Rattle.key.specs.Steps.{scannedAt, strokeOf, foundOf}
 use Rattle.key.proofs.Reading.{Is, plain-is}
-use Rattle.key.proofs.Writing.{key-length, escape-length}
-use Rattle.key.proofs.Words.{both, words-sound, word-below, tail-of}
-
--- ---- where a name ends
-
-pub stroke-short : (r : Name) (from last b n : ℕ) → placed r from 0 ≡ Stroke b n → n ≤ 32 → b ≡ strokeOf r from last
-stroke-short bad from last b n e h = let z : _≡_ {A = ℕ} 0 1 = cc in absurd (omega arith)
-stroke-short (ended name) from last b n e h = let z : _≡_ {A = ℕ} 0 1 = cc in absurd (omega arith)
-stroke-short (stopped name rest) from last b n e h =
-    let eb : from + length (escape name) ≡ b = cc in
-    let en : 0 + length name ≡ n = cc in
-    rw (le-leb (length name) 32 (omega arith)) (sym eb)
-
-pub stroke-long : (r : Name) (from last b n : ℕ) → placed r from 0 ≡ Stroke b n → 32 < n → last ≡ strokeOf r from last
-stroke-long bad from last b n e h = refl
-stroke-long (ended name) from last b n e h = refl
-stroke-long (stopped name rest) from last b n e h =
-    let en : 0 + length name ≡ n = cc in
-    rw (lt-leb (length name) 32 (omega arith))
-
-abbrev pub NoStroke : Scan → Type 0
-NoStroke Refused = Unit
-NoStroke (End n) = Unit
-NoStroke (Stroke b n) = ⊥
-
-pub stroke-none : (r : Name) (from last : ℕ) (s : Scan) → placed r from 0 ≡ s → NoStroke s → last ≡ strokeOf r from last
-stroke-none bad from last s e h = refl
-stroke-none (ended name) from last s e h = refl
-stroke-none (stopped name rest) from last s e h = absurd (subst NoStroke (sym e) h)
+use Rattle.key.proofs.Form.{key-length, escape-length}
+use Rattle.key.proofs.Words.{words-sound, word-below, tail-of}
 
 -- ---- a name that a stroke ends, and one that none ends
 
@@ -60,30 +32,30 @@ Unnamed bad = Unit
 Unnamed (ended name) = Unit
 Unnamed (stopped name rest) = leb (length name) 32 ≡ false
 
-past : (k name rest : List ℕ) (from : ℕ) → drop from k ≡ escape name ++ (47 ∷ rest) → drop (from + length (escape name) + 1) k ≡ rest
+past : (k name rest : List ℕ) (from : ℕ) → drop from k ≡ escape name ++ (0x2F ∷ rest) → drop (from + length (escape name) + 1) k ≡ rest
 past k name rest from e =
     let z : from + length (escape name) + 1 ≡ from + (length (escape name) + 1) = omega arith in
-    let n : length (escape name ++ (47 ∷ [])) ≡ length (escape name) + 1 = length-append (escape name) (47 ∷ []) in
-    ap (λ (i : ℕ). drop i k) z ∙ sym (drop-drop (length (escape name) + 1) from k) ∙ ap (drop (length (escape name) + 1)) (e ∙ sym (append-assoc (escape name) (47 ∷ []) rest)) ∙ drop-at (escape name ++ (47 ∷ [])) rest _ n
+    let n : length (escape name ++ (0x2F ∷ [])) ≡ length (escape name) + 1 = length-append (escape name) (0x2F ∷ []) in
+    ap (λ (i : ℕ). drop i k) z ∙ sym (drop-drop (length (escape name) + 1) from k) ∙ ap (drop (length (escape name) + 1)) (e ∙ sym (append-assoc (escape name) (0x2F ∷ []) rest)) ∙ drop-at (escape name ++ (0x2F ∷ [])) rest _ n
 
-pub named : (k : List ℕ) (from b : ℕ) → b ≡ strokeOf (readPlain (drop from k)) from (length k) → b < length k → Named k from b
+pub named : (k : List ℕ) (from b : ℕ) → b ≡ strokeOf (scannedAt (readPlain (drop from k)) from 0) (length k) → b < length k → Named k from b
 named k from b e h = go (readPlain (drop from k)) (plain-is (drop from k)) refl e
   where
-    go : (r : Name) → Is (drop from k) r → readPlain (drop from k) ≡ r → b ≡ strokeOf r from (length k) → Named k from b
+    go : (r : Name) → Is (drop from k) r → readPlain (drop from k) ≡ r → b ≡ strokeOf (scannedAt r from 0) (length k) → Named k from b
     go bad i f e = absurd (omega arith)
     go (ended name) i f e = absurd (omega arith)
     go (stopped name rest) i f e = short (leb (length name) 32) refl
       where
         short : (t : Bool) → leb (length name) 32 ≡ t → Named k from b
         short true g =
-            let p : b ≡ from + length (escape name) = rw g at e in
+            let p : b ≡ from + length (escape name) = rw (zero-add, g) at e in
             record { name = name; rest = rest; reads = f; short = leb-true _ _ g; place = p; next = ap (λ (j : ℕ). drop (j + 1) k) p ∙ past k name rest from i }
-        short false g = let p : b ≡ length k = rw g at e in absurd (omega arith)
+        short false g = let p : b ≡ length k = rw (zero-add, g) at e in absurd (omega arith)
 
-pub unnamed : (k : List ℕ) (from b : ℕ) → b ≡ strokeOf (readPlain (drop from k)) from (length k) → length k ≤ b → Unnamed (readPlain (drop from k))
+pub unnamed : (k : List ℕ) (from b : ℕ) → b ≡ strokeOf (scannedAt (readPlain (drop from k)) from 0) (length k) → length k ≤ b → Unnamed (readPlain (drop from k))
 unnamed k from b e h = go (readPlain (drop from k)) (plain-is (drop from k)) e
   where
-    go : (r : Name) → Is (drop from k) r → b ≡ strokeOf r from (length k) → Unnamed r
+    go : (r : Name) → Is (drop from k) r → b ≡ strokeOf (scannedAt r from 0) (length k) → Unnamed r
     go bad i e = tt
     go (ended name) i e = tt
     go (stopped name rest) i e = short (leb (length name) 32) refl
@@ -91,7 +63,7 @@ unnamed k from b e h = go (readPlain (drop from k)) (plain-is (drop from k)) e
         short : (t : Bool) → leb (length name) 32 ≡ t → leb (length name) 32 ≡ false
         short false g = g
         short true g =
-            let p : b ≡ from + length (escape name) = rw g at e in
+            let p : b ≡ from + length (escape name) = rw (zero-add, g) at e in
             absurd (omega (arith, simp (length-append, length-drop) at (ap length i)))
 
 -- ---- what is found
@@ -118,14 +90,14 @@ pub no-device : (k : List ℕ) (a : ℕ) → Named k 0 a → Unnamed (readPlain 
 no-device k a m u = ap foundOf (device-none (m .name) (readPlain (drop (a + 1) k)) u ∙ after-maker k a m)
 
 after-device : (k : List ℕ) (a b : ℕ) (m : Named k 0 a) (d : Named k (a + 1) b)
-    → cond (isWords (drop (b + 1) k)) (some (record { maker = m .name; device = d .name; date = wordOf (drop (b + 1) k); serial = wordOf (drop 5 (drop (b + 1) k)) })) none ≡ readKey k
+    → cond (isWords (drop (b + 1) k)) (some (record { maker = m .name; device = d .name; date = digitsWord (drop (b + 1) k); serial = digitsWord (drop 5 (drop (b + 1) k)) })) none ≡ readKey k
 after-device k a b m d = rw (d .next) (rw (d .reads, le-leb _ _ (d .short)) at (after-maker k a m))
 
 module _ (k : List ℕ) (a b : ℕ) (m : Named k 0 a) (d : Named k (a + 1) b) where
   pub no-words : isWords (drop (b + 1) k) ≡ false → foundOf none ≡ foundOf (readKey k)
   no-words e = ap foundOf (rw e at (after-device k a b m d))
 
-  pub is-found : isWords (drop (b + 1) k) ≡ true → {x y : ℕ} → x ≡ wordOf (drop (b + 1) k) → y ≡ wordOf (drop (b + 1 + 5) k)
+  pub is-found : isWords (drop (b + 1) k) ≡ true → {x y : ℕ} → x ≡ digitsWord (drop (b + 1) k) → y ≡ digitsWord (drop (b + 1 + 5) k)
       → record { answer = 0; «maker_end» = a; «device_start» = a + 1; «device_end» = b; date = x; serial = y } ≡ foundOf (readKey k)
   is-found e {x} {y} ex ey =
       let f = ap foundOf (rw (e, drop-drop 5 (b + 1) k) at (after-device k a b m d)) in
@@ -138,38 +110,38 @@ module _ (k : List ℕ) (a b : ℕ) (m : Named k 0 a) (d : Named k (a + 1) b) wh
 
 -- ---- what is read as four parts is their key
 
-given-words : (m d s : List ℕ) (k : List ℕ) (p : Parts) → length m ≤ 32 → k ≡ escape m ++ (47 ∷ (escape d ++ (47 ∷ s)))
-    → cond (leb (length d) 32 && isWords s) (some (record { maker = m; device = d; date = wordOf s; serial = wordOf (drop 5 s) })) none ≡ some p → Fit p × (k ≡ keyOfParts p)
+given-words : (m d s : List ℕ) (k : List ℕ) (p : Parts) → length m ≤ 32 → k ≡ escape m ++ (0x2F ∷ (escape d ++ (0x2F ∷ s)))
+    → cond (leb (length d) 32 && isWords s) (some (record { maker = m; device = d; date = digitsWord s; serial = digitsWord (drop 5 s) })) none ≡ some p → PartsFit p × (k ≡ keyOfParts p)
 unfolding keyOf
 given-words m d s k p hm ek e = go (leb (length d) 32 && isWords s) refl
   where
-    go : (t : Bool) → leb (length d) 32 && isWords s ≡ t → Fit p × (k ≡ keyOfParts p)
+    go : (t : Bool) → leb (length d) 32 && isWords s ≡ t → PartsFit p × (k ≡ keyOfParts p)
     go false f = let e′ : none ≡ some p = rw f at e in let z : _≡_ {A = ℕ} 0 1 = cc in absurd (omega arith)
     go true f =
-        let e′ : some (record { maker = m; device = d; date = wordOf s; serial = wordOf (drop 5 s) }) ≡ some p = rw f at e in
-        let ep : record { maker = m; device = d; date = wordOf s; serial = wordOf (drop 5 s) } ≡ p = cc in
-        let g = both (leb (length d) 32) (isWords s) f in
+        let e′ : some (record { maker = m; device = d; date = digitsWord s; serial = digitsWord (drop 5 s) }) ≡ some p = rw f at e in
+        let ep : record { maker = m; device = d; date = digitsWord s; serial = digitsWord (drop 5 s) } ≡ p = cc in
+        let g = and-eq-true-iff (leb (length d) 32) (isWords s) .0 f in
         let t = tail-of s (g .1) in
-        subst (λ (x : Parts). Fit x × (k ≡ keyOfParts x)) ep (
+        subst (λ (x : Parts). PartsFit x × (k ≡ keyOfParts x)) ep (
           record { maker-fits = hm; device-fits = leb-true _ _ (g .0); date-fits = word-below s (t .date); serial-fits = word-below (drop 5 s) (t .serial) },
-          ek ∙ ap (λ (l : List ℕ). escape m ++ (47 ∷ (escape d ++ (47 ∷ l)))) (words-sound s (g .1)),
+          ek ∙ ap (λ (l : List ℕ). escape m ++ (0x2F ∷ (escape d ++ (0x2F ∷ l)))) (words-sound s (g .1)),
         )
 
-given-device : (m : List ℕ) (k rest : List ℕ) (p : Parts) → length m ≤ 32 → k ≡ escape m ++ (47 ∷ rest) → (r : Name) → Is rest r → afterDevice m r ≡ some p → Fit p × (k ≡ keyOfParts p)
+given-device : (m : List ℕ) (k rest : List ℕ) (p : Parts) → length m ≤ 32 → k ≡ escape m ++ (0x2F ∷ rest) → (r : Name) → Is rest r → afterDevice m r ≡ some p → PartsFit p × (k ≡ keyOfParts p)
 given-device m k rest p hm ek bad i e = let z : _≡_ {A = ℕ} 0 1 = cc in absurd (omega arith)
 given-device m k rest p hm ek (ended name) i e = let z : _≡_ {A = ℕ} 0 1 = cc in absurd (omega arith)
-given-device m k rest p hm ek (stopped d s) i e = given-words m d s k p hm (ek ∙ ap (λ (l : List ℕ). escape m ++ (47 ∷ l)) i) e
+given-device m k rest p hm ek (stopped d s) i e = given-words m d s k p hm (ek ∙ ap (λ (l : List ℕ). escape m ++ (0x2F ∷ l)) i) e
 
-given-maker : (k : List ℕ) (p : Parts) (r : Name) → Is k r → afterMaker r ≡ some p → Fit p × (k ≡ keyOfParts p)
+given-maker : (k : List ℕ) (p : Parts) (r : Name) → Is k r → afterMaker r ≡ some p → PartsFit p × (k ≡ keyOfParts p)
 given-maker k p bad i e = let z : _≡_ {A = ℕ} 0 1 = cc in absurd (omega arith)
 given-maker k p (ended name) i e = let z : _≡_ {A = ℕ} 0 1 = cc in absurd (omega arith)
 given-maker k p (stopped m rest) i e = go (leb (length m) 32) refl
   where
-    go : (t : Bool) → leb (length m) 32 ≡ t → Fit p × (k ≡ keyOfParts p)
+    go : (t : Bool) → leb (length m) 32 ≡ t → PartsFit p × (k ≡ keyOfParts p)
     go false f = let e′ : none ≡ some p = rw f at e in let z : _≡_ {A = ℕ} 0 1 = cc in absurd (omega arith)
     go true f = given-device m k rest p (leb-true _ _ f) i (readPlain rest) (plain-is rest) (rw f at e)
 
-pub key-given : (k : List ℕ) (p : Parts) → readKey k ≡ some p → Fit p × (k ≡ keyOfParts p)
+pub key-given : (k : List ℕ) (p : Parts) → readKey k ≡ some p → PartsFit p × (k ≡ keyOfParts p)
 unfolding readKey
 key-given k p e = given-maker k p (readPlain k) (plain-is k) e
 
@@ -213,14 +185,14 @@ shown k (some p) e =
     let n : length k ≡ length (escape (p .maker)) + length (escape (p .device)) + 11 = ap length g ∙ key-length (p .maker) (p .device) (p .date) (p .serial) in
     let z₀ : length (escape (p .maker)) - 0 ≡ length (escape (p .maker)) = omega arith in
     let z : length (escape (p .maker)) + 1 + length (escape (p .device)) - (length (escape (p .maker)) + 1) ≡ length (escape (p .device)) = omega arith in
-    let l : length (escape (p .maker) ++ (47 ∷ [])) ≡ length (escape (p .maker)) + 1 = length-append (escape (p .maker)) (47 ∷ []) in
-    let tail : List ℕ = hexWord (p .date) ++ (47 ∷ hexWord (p .serial)) in
-    let d : drop (length (escape (p .maker)) + 1) k ≡ escape (p .device) ++ (47 ∷ tail) =
-    ap (drop (length (escape (p .maker)) + 1)) (g ∙ sym (append-assoc (escape (p .maker)) (47 ∷ []) (escape (p .device) ++ (47 ∷ tail)))) ∙ drop-at (escape (p .maker) ++ (47 ∷ [])) _ _ l in
+    let l : length (escape (p .maker) ++ (0x2F ∷ [])) ≡ length (escape (p .maker)) + 1 = length-append (escape (p .maker)) (0x2F ∷ []) in
+    let tail : List ℕ = hexWord (p .date) ++ (0x2F ∷ hexWord (p .serial)) in
+    let d : drop (length (escape (p .maker)) + 1) k ≡ escape (p .device) ++ (0x2F ∷ tail) =
+    ap (drop (length (escape (p .maker)) + 1)) (g ∙ sym (append-assoc (escape (p .maker)) (0x2F ∷ []) (escape (p .device) ++ (0x2F ∷ tail)))) ∙ drop-at (escape (p .maker) ++ (0x2F ∷ [])) _ _ l in
     record {
       maker-within = omega arith;
       maker-is = rw z₀ (ap (take (length (escape (p .maker)))) g ∙ take-append-seam (escape (p .maker)) _);
       device-order = omega arith;
       device-within = omega arith;
-      device-is = rw (z, d) (take-append-seam (escape (p .device)) (47 ∷ tail));
+      device-is = rw (z, d) (take-append-seam (escape (p .device)) (0x2F ∷ tail));
     }

@@ -1,4 +1,4 @@
-pub mod Writing
+pub mod Form
 pub mod Reading
 pub mod Words
 pub mod Keys

@@ -1,4 +1,4 @@
--- Pack keys, in the words of document 01, "Key": what a key is, how it is written, how bytes are read. Assumes nothing: these are definitions.
+-- Pack keys, in the words of document 01, "Key": what a key is, and how bytes are read. Assumes nothing: these are definitions.
 use mathlib.Core.Path.{_≡_}
 use mathlib.Core.Bool.{Bool, cond, _&&_, _||_}
 use mathlib.Core.List.{List, [], _∷_, _++_}
@@ -6,7 +6,8 @@ use mathlib.Core.Option.{Option, none, some}
 use Prim.Native.Nat.{ℕ, _+_, _*_, _-_, _/_, _%_, _≤_, _<_}
 use lib.Dec.{eqb, ltb, leb}
 use lib.ListN.{length, getD, drop}
-use Rattle.key.specs.declared.Wrote.{Wrote}
+use Rattle.rooms.specs.declared.Wrote.{Wrote}
+use Rattle.rooms.specs.Rooms.{placed, wrote}
 use Rattle.key.specs.declared.Read.{Read}
 
 -- ---- what a key is
@@ -44,7 +45,7 @@ pub record Parts : Type 0 where
   pub serial : ℕ
 
 -- the parts that a key can have: names of up to 32 bytes, and words
-pub record Fit (p : Parts) : Type 0 where
+pub record PartsFit (p : Parts) : Type 0 where
   pub maker-fits : length (p .maker) ≤ 32
   pub device-fits : length (p .device) ≤ 32
   pub date-fits : p .date < 65536
@@ -56,28 +57,12 @@ keyOfParts p = keyOf (p .maker) (p .device) (p .date) (p .serial)
 -- bytes are a key exactly when the writer gives them for some four parts
 pub record IsKey (bytes : List ℕ) : Type 0 where
   pub parts : Parts
-  pub fit : Fit parts
+  pub fit : PartsFit parts
   pub given : bytes ≡ keyOfParts parts
 
 -- the date as a word (002, ManufactureDate): the year from 1980 on, the month and the day
 abbrev pub dateWord : ℕ → ℕ → ℕ → ℕ
 dateWord year month day = (year - 1980) * 512 + month * 32 + day
-
--- ---- writing
-
--- what the writer refuses: a name over 32 bytes, or a room under 139
-unfoldable pub refused : List ℕ → List ℕ → List ℕ → Bool
-refused maker device room = ltb 32 (length maker) || ltb 32 (length device) || ltb (length room) 139
-
--- the writer's answer, and the key's length
-unfoldable pub wroteOf : List ℕ → List ℕ → ℕ → ℕ → List ℕ → Wrote
-wroteOf maker device date serial room =
-    cond (refused maker device room) (record { answer = 12; length = 0 }) (record { answer = 0; length = length (keyOf maker device date serial) })
-
--- the room after writing: the key at its front, and the rest of the room as it was
-unfoldable pub roomAfter : List ℕ → List ℕ → ℕ → ℕ → List ℕ → List ℕ
-roomAfter maker device date serial room =
-    cond (refused maker device room) room (keyOf maker device date serial ++ drop (length (keyOf maker device date serial)) room)
 
 -- ---- reading
 
@@ -112,8 +97,8 @@ unfoldable pub isWord : List ℕ → Bool
 isWord s = ltb (digitValue (getD s 0 0)) 16 && ltb (digitValue (getD s 1 0)) 16 && ltb (digitValue (getD s 2 0)) 16 && ltb (digitValue (getD s 3 0)) 16
 
 -- the number that four digits stand for
-unfoldable pub wordOf : List ℕ → ℕ
-wordOf s = digitValue (getD s 0 0) * 4096 + digitValue (getD s 1 0) * 256 + digitValue (getD s 2 0) * 16 + digitValue (getD s 3 0)
+unfoldable pub digitsWord : List ℕ → ℕ
+digitsWord s = digitValue (getD s 0 0) * 4096 + digitValue (getD s 1 0) * 256 + digitValue (getD s 2 0) * 16 + digitValue (getD s 3 0)
 
 -- what follows the names: four digits, 2F, four digits, and no byte more
 unfoldable pub isWords : List ℕ → Bool
@@ -124,7 +109,7 @@ abbrev pub afterDevice : List ℕ → Name → Option Parts
 afterDevice maker bad = none
 afterDevice maker (ended device) = none
 afterDevice maker (stopped device rest) =
-    cond (leb (length device) 32 && isWords rest) (some (record { maker = maker; device = device; date = wordOf rest; serial = wordOf (drop 5 rest) })) none
+    cond (leb (length device) 32 && isWords rest) (some (record { maker = maker; device = device; date = digitsWord rest; serial = digitsWord (drop 5 rest) })) none
 
 -- after the maker, which has up to 32 bytes, comes the device name
 abbrev pub afterMaker : Name → Option Parts
@@ -167,10 +152,10 @@ nameIn part = cond (ltb 64 (length part)) none (unescaped part)
 
 -- answer 13 where the bytes are no escaped name, 12 where the room is too short for the plain name
 abbrev pub plainWrote : Option (List ℕ) → List ℕ → Wrote
-plainWrote none room = record { answer = 13; length = 0 }
-plainWrote (some name) room = cond (ltb (length room) (length name)) (record { answer = 12; length = 0 }) (record { answer = 0; length = length name })
+plainWrote none room = wrote 13 0
+plainWrote (some name) room = cond (ltb (length room) (length name)) (wrote 12 0) (wrote 0 (length name))
 
 -- the plain name at the front of the room, and the rest of the room as it was
 abbrev pub plainRoom : Option (List ℕ) → List ℕ → List ℕ
 plainRoom none room = room
-plainRoom (some name) room = cond (ltb (length room) (length name)) room (name ++ drop (length name) room)
+plainRoom (some name) room = cond (ltb (length room) (length name)) room (placed name room)

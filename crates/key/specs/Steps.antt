@@ -8,20 +8,21 @@ use lib.ListN.{length, getD}
 use Rattle.key.specs.declared.Scan.{Scan}
 use Rattle.key.specs.declared.Scan.the-variants.{Refused, End, Stroke}
 use Rattle.key.specs.declared.Found.{Found}
-use Rattle.key.specs.declared.Wrote.{Wrote}
+use Rattle.rooms.specs.declared.Wrote.{Wrote}
+use Rattle.rooms.specs.Rooms.{wrote}
 use Rattle.key.specs.Key.{Name, bad, ended, stopped, Parts, escape, unescaped}
 
 -- a name that is read from the place `at` on, after n bytes of it: where its 2F stands, and its bytes counted
-abbrev pub placed : Name → ℕ → ℕ → Scan
-placed bad at n = Refused
-placed (ended name) at n = End (n + length name)
-placed (stopped name rest) at n = Stroke (at + length (escape name)) (n + length name)
+abbrev pub scannedAt : Name → ℕ → ℕ → Scan
+scannedAt bad at n = Refused
+scannedAt (ended name) at n = End (n + length name)
+scannedAt (stopped name rest) at n = Stroke (at + length (escape name)) (n + length name)
 
--- where a name of up to 32 bytes that is read from `at` on ends at a 2F, and `last` where it does not
-abbrev pub strokeOf : Name → ℕ → ℕ → ℕ
-strokeOf bad at last = last
-strokeOf (ended name) at last = last
-strokeOf (stopped name rest) at last = cond (leb (length name) 32) (at + length (escape name)) last
+-- where a name of up to 32 bytes ends at a 2F, and `last` where it does not
+abbrev pub strokeOf : Scan → ℕ → ℕ
+strokeOf Refused last = last
+strokeOf (End n) last = last
+strokeOf (Stroke at n) last = cond (leb n 32) at last
 
 -- answer, words, and the places of both names
 abbrev pub foundOf : Option Parts → Found
@@ -36,10 +37,11 @@ foundOf (some p) =
       serial = p .serial;
     }
 
--- answer and length of the plain name
-abbrev pub countOf : Option (List ℕ) → Wrote
-countOf none = record { answer = 13; length = 0 }
-countOf (some name) = record { answer = 0; length = length name }
+-- answer and length of a plain name that the last byte ends
+abbrev pub countOf : Scan → Wrote
+countOf Refused = wrote 13 0
+countOf (End n) = wrote 0 n
+countOf (Stroke at n) = wrote 13 0
 
 -- the plain name, or no bytes
 abbrev pub plainOf : List ℕ → List ℕ

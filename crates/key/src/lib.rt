@@ -1,21 +1,17 @@
-// Pack keys: escape before you join (document 01, "Key").
+// Pack keys: what bytes are one, and how they are read (document 01, "Key").
+use rooms::Wrote;
+use rooms::wide;
 ghost use mathlib.Core.Path.{_≡_};
-ghost use Prim.Native.Nat.{_+_, _-_, _*_, _<_, _≤_};
+ghost use Prim.Native.Nat.{_+_, _-_, _<_, _≤_};
 ghost use mathlib.Core.Option.{none};
 ghost use lib.ListN.{length, drop};
 ghost use lib.Seq.{sets};
-ghost use Rattle.key.specs.Key.{marked, escape, escapeByte, hexDigit, hexWord, wroteOf, roomAfter, readPlain, readEscaped, digitValue, isWord, wordOf, isWords, readKey, readOf, makerOf, deviceOf, unescaped, nameIn, plainWrote, plainRoom};
-ghost use Rattle.key.specs.Steps.{placed, strokeOf, foundOf, countOf, plainOf, pastMark};
-
-// An answer number, and how many bytes were written.
-pub struct Wrote {
-    pub answer: u16,
-    pub length: usize,
-}
+ghost use Rattle.key.specs.Key.{marked, escape, readPlain, readEscaped, digitValue, isWord, digitsWord, isWords, readKey, readOf, makerOf, deviceOf, unescaped, nameIn, plainWrote, plainRoom};
+ghost use Rattle.key.specs.Steps.{scannedAt, strokeOf, foundOf, countOf, plainOf, pastMark};
 
 // An answer number, and the words of a key.
 pub struct Read {
-    pub answer: u16,
+    pub answer: u8,
     pub date: u16,
     pub serial: u16,
 }
@@ -29,7 +25,7 @@ enum Scan {
 
 // What a reader of keys finds: the words, and where the names stand.
 struct Found {
-    answer: u16,
+    answer: u8,
     maker_end: usize,
     device_start: usize,
     device_end: usize,
@@ -38,105 +34,16 @@ struct Found {
 }
 
 // A byte that a name has escaped.
-fn is_marked(b: u8) -> bool
+pub fn is_marked(b: u8) -> bool
     ensures { λ r. ⌜ r ≡ marked b ⌝ }
 {
     (b == 0x2F) | (b == 0x5C)
 }
 
-// The byte as a key has it, written at a place.
-fn put_byte(b: u8, room: &mut [u8], at: usize) -> usize
-    requires { ⌜ at + 2 ≤ length (now room) ⌝ }
-    ensures { λ r. ⌜ r ≡ at + length (escapeByte b) ⌝ }
-    ensures { λ _. ⌜ now (room .exit) ≡ sets (now (room .entry)) at (escapeByte b) ⌝ }
-{
-    if is_marked(b) {
-        room[at] = 0x5C;
-        room[at + 1] = b;
-        return at + 2;
-    }
-    room[at] = b;
-    at + 1
-}
-
-// A name as a key has it, written from a place on.
-fn put_name(name: &[u8], room: &mut [u8], at: usize) -> usize
-    requires { ⌜ at + 2 * length (now name) ≤ length (now room) ⌝ }
-    ensures { λ r. ⌜ r ≡ at + length (escape (now (name .entry))) ⌝ }
-    ensures { λ _. ⌜ now (room .exit) ≡ sets (now (room .entry)) at (escape (now (name .entry))) ⌝ }
-    ensures { λ r. ⌜ (at ≤ r) × (r ≤ at + 2 * length (now (name .entry))) ⌝ }
-{
-    let mut j = 0;
-    let mut o = at;
-    while j < name.len() {
-        o = put_byte(name[j], room, o);
-        j += 1;
-    }
-    o
-}
-
-fn digit(n: u16) -> u8
-    requires { ⌜ n < 16 ⌝ }
-    ensures { λ r. ⌜ r ≡ hexDigit n ⌝ }
-{
-    if n < 10 {
-        (0x30 + n) as u8
-    } else {
-        (0x57 + n) as u8
-    }
-}
-
-// A word as four digits, written at a place.
-fn put_word(w: u16, room: &mut [u8], at: usize)
-    requires { ⌜ at + 4 ≤ length (now room) ⌝ }
-    ensures { λ _. ⌜ now (room .exit) ≡ sets (now (room .entry)) at (hexWord w) ⌝ }
-{
-    room[at] = digit(w / 4096);
-    room[at + 1] = digit(w / 256 % 16);
-    room[at + 2] = digit(w / 16 % 16);
-    room[at + 3] = digit(w % 16);
-}
-
-// The key of four parts, at the front of the room. Answer 12: a name over 32 bytes, or a room under 139.
-pub fn write_key(maker: &[u8], device: &[u8], date: u16, serial: u16, room: &mut [u8]) -> Wrote
-    ensures { λ r. ⌜ r ≡ wroteOf (now (maker .entry)) (now (device .entry)) date serial (now (room .entry)) ⌝ }
-    ensures { λ _. ⌜ now (room .exit) ≡ roomAfter (now (maker .entry)) (now (device .entry)) date serial (now (room .entry)) ⌝ }
-{
-    if 32 < maker.len() {
-        return Wrote {
-            answer: 12,
-            length: 0,
-        };
-    }
-    if 32 < device.len() {
-        return Wrote {
-            answer: 12,
-            length: 0,
-        };
-    }
-    if room.len() < 139 {
-        return Wrote {
-            answer: 12,
-            length: 0,
-        };
-    }
-    let a = put_name(maker, room, 0);
-    room[a] = 0x2F;
-    let b = put_name(device, room, a + 1);
-    room[b] = 0x2F;
-    put_word(date, room, b + 1);
-    room[b + 5] = 0x2F;
-    put_word(serial, room, b + 6);
-    Wrote {
-        answer: 0,
-        length: b + 10,
-    }
-}
-
 // Plain reading from a place on, after n bytes of the name.
 fn plain(key: &[u8], at: usize, n: usize) -> Scan
     requires { ⌜ n ≤ at ⌝ }
-    ensures { λ r. ⌜ r ≡ placed (readPlain (drop at (now (key .entry)))) at n ⌝ }
+    ensures { λ r. ⌜ r ≡ scannedAt (readPlain (drop at (now (key .entry)))) at n ⌝ }
 {
     if at < key.len() {
         let b = key[at];
@@ -155,7 +62,7 @@ fn plain(key: &[u8], at: usize, n: usize) -> Scan
 // The escape rule: the one byte that the mark before it hands on, then plain reading.
 fn escaped(key: &[u8], at: usize, n: usize) -> Scan
     requires { ⌜ n < at ⌝ }
-    ensures { λ r. ⌜ r ≡ placed (readEscaped (drop at (now (key .entry)))) (at - 1) n ⌝ }
+    ensures { λ r. ⌜ r ≡ scannedAt (readEscaped (drop at (now (key .entry)))) (at - 1) n ⌝ }
 {
     if at < key.len() {
         let handed = key[at];
@@ -171,7 +78,7 @@ fn escaped(key: &[u8], at: usize, n: usize) -> Scan
 
 // Where a name of up to 32 bytes, read from a place on, ends at a 2F; the key's length where it does not.
 fn stroke(key: &[u8], from: usize) -> usize
-    ensures { λ r. ⌜ r ≡ strokeOf (readPlain (drop from (now (key .entry)))) from (length (now (key .entry))) ⌝ }
+    ensures { λ r. ⌜ r ≡ strokeOf (scannedAt (readPlain (drop from (now (key .entry)))) from 0) (length (now (key .entry))) ⌝ }
 {
     match plain(key, from, 0) {
         Scan::Stroke(at, n) => { if n <= 32 { at } else { key.len() } }
@@ -181,7 +88,7 @@ fn stroke(key: &[u8], from: usize) -> usize
 }
 
 // The number that a lower-case hexadecimal digit stands for, and 16 for any other byte.
-fn digit_value(c: u8) -> u32
+fn digit_value(c: u8) -> usize
     ensures { λ r. ⌜ r ≡ digitValue c ⌝ }
     ensures { λ r. ⌜ r ≤ 16 ⌝ }
 {
@@ -192,12 +99,6 @@ fn digit_value(c: u8) -> u32
         return wide(c) - 0x57;
     }
     16
-}
-
-fn wide(c: u8) -> u32
-    ensures { λ r. ⌜ r ≡ c ⌝ }
-{
-    c as u32
 }
 
 // Four digits stand at a place.
@@ -212,9 +113,9 @@ fn is_word(key: &[u8], at: usize) -> bool
 }
 
 // The number that four digits at a place stand for.
-fn word(key: &[u8], at: usize) -> u32
+fn word(key: &[u8], at: usize) -> usize
     requires { ⌜ at + 4 ≤ length (now key) ⌝ }
-    ensures { λ r. ⌜ r ≡ wordOf (drop at (now (key .entry))) ⌝ }
+    ensures { λ r. ⌜ r ≡ digitsWord (drop at (now (key .entry))) ⌝ }
 {
     let a = digit_value(key[at]);
     let b = digit_value(key[at + 1]);
@@ -319,7 +220,7 @@ pub fn device_part(key: &[u8]) -> &[u8]
 
 // How many bytes the plain name has. Answer 13: the bytes are no escaped name.
 fn count(part: &[u8]) -> Wrote
-    ensures { λ r. ⌜ r ≡ countOf (unescaped (now (part .entry))) ⌝ }
+    ensures { λ r. ⌜ r ≡ countOf (scannedAt (readPlain (now (part .entry))) 0 0) ⌝ }
 {
     match plain(part, 0, 0) {
         Scan::End(n) => Wrote {

@@ -30,7 +30,7 @@ fn front(room: &[u8]) {
 
 // The writer's answer, the length, and the first 24 bytes of the room as the writer left it.
 fn write(maker: &[u8], device: &[u8], room: &mut [u8]) {
-    let wrote = key::write_key(maker, device, 0x526F, 17, room);
+    let wrote = key_writer::write_key(maker, device, 0x526F, 17, room);
     io::print_decimal(OUT, wrote.answer as u64);
     io::write_all(OUT, b" ");
     io::print_decimal(OUT, wrote.length as u64);

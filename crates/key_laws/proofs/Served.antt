@@ -7,19 +7,22 @@ use native.Mathlib.Omega.{arith}
 use lib.ListN.{length, replicate}
 use lib.Seq.{take-append-seam}
 use lib.Dec.{ltb}
+use mathlib.Mathlib.Data.Bool.Basic.{or-eq-false-eq-eq-false-and-eq-false}
 use borrow.Author.Tests.{le-ltb, ltb-false}
-use Rattle.key.specs.Key.{marked, escapeByte, escape, keyOfParts, Parts, Fit, IsKey, refused, wroteOf, roomAfter}
-use Rattle.key_laws.specs.Laws.{Written, Bytes}
+use Rattle.rooms.specs.Rooms.{Bytes}
+use Rattle.key.specs.Key.{marked, escapeByte, escape, keyOfParts, Parts, PartsFit, IsKey}
+use Rattle.key_writer.specs.Writing.{refused, keyWrote, keyRoom}
+use Rattle.key_laws.specs.Laws.{WriterGives}
 
 -- ---- what a served call of the writer says
 
-open-room : (p : Parts) → Fit p → refused (p .maker) (p .device) (replicate 139 0) ≡ false
+open-room : (p : Parts) → PartsFit p → refused (p .maker) (p .device) (replicate 139 0) ≡ false
 unfolding refused
 open-room p f = simp (le-ltb _ _ (f .maker-fits), le-ltb _ _ (f .device-fits))
 
-pub written : (k : List ℕ) → IsKey k → Written k
-unfolding wroteOf roomAfter
-written k i =
+pub gives : (k : List ℕ) → IsKey k → WriterGives k
+unfolding keyWrote keyRoom
+gives k i =
     let p : Parts = i .parts in
     let o = open-room p (i .fit) in
     record {
@@ -31,13 +34,9 @@ written k i =
       front = rw o (take-append-seam (keyOfParts p) _ ∙ sym (i .given));
     }
 
-neither : (a b : Bool) → a || b ≡ false → (a ≡ false) × (b ≡ false)
-neither true b e = let z : _≡_ {A = ℕ} 0 1 = cc in absurd (omega arith)
-neither false b e = (refl, e)
-
-pub given : (k : List ℕ) → Written k → IsKey k
-unfolding wroteOf roomAfter refused
-given k w = go (refused (p .maker) (p .device) (w .room)) refl
+pub is-given : (k : List ℕ) → WriterGives k → IsKey k
+unfolding keyWrote keyRoom refused
+is-given k w = go (refused (p .maker) (p .device) (w .room)) refl
   where
     p : Parts
     p = w .parts
@@ -45,8 +44,8 @@ given k w = go (refused (p .maker) (p .device) (w .room)) refl
     go : (t : Bool) → refused (p .maker) (p .device) (w .room) ≡ t → IsKey k
     go true e = let z : _≡_ {A = ℕ} 12 0 = rw e at (w .served) in absurd (omega arith)
     go false e =
-        let a = neither (ltb 32 (length (p .maker)) || ltb 32 (length (p .device))) (ltb (length (w .room)) 139) e in
-        let b = neither (ltb 32 (length (p .maker))) (ltb 32 (length (p .device))) (a .0) in
+        let a = or-eq-false-eq-eq-false-and-eq-false (ltb 32 (length (p .maker)) || ltb 32 (length (p .device))) (ltb (length (w .room)) 139) .0 e in
+        let b = or-eq-false-eq-eq-false-and-eq-false (ltb 32 (length (p .maker))) (ltb 32 (length (p .device))) .0 (a .0) in
         record {
           parts = p;
           fit = record { maker-fits = ltb-false _ _ (b .0); device-fits = ltb-false _ _ (b .1); date-fits = w .date-word; serial-fits = w .serial-word };

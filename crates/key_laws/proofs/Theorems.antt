@@ -1,30 +1,30 @@
 -- The theorems on pack keys. Assumes nothing.
 use mathlib.Core.Path.{_≡_, refl, sym, ap, _∙_, subst}
-use mathlib.Core.Logic.{_↔_}
 use mathlib.Core.Bool.{Bool, true, false}
 use mathlib.Core.List.{List, [], _∷_, _++_}
 use mathlib.Core.Option.{Option, none, some}
 use Prim.Native.Nat.{ℕ, _≤_}
 use native.Mathlib.Omega.{arith}
-use lib.ListN.{length, replicate}
+use lib.ListN.{length}
 use borrow.Author.Tests.{le-ltb}
-use Rattle.key.specs.Key.{escape, hexWord, keyOf, keyOfParts, Parts, Fit, IsKey, isWords, readKey, readOf, makerOf, deviceOf, unescaped, nameIn}
+use Rattle.rooms.specs.Rooms.{Bytes}
+use Rattle.key.specs.Key.{escape, hexWord, keyOf, keyOfParts, Parts, IsKey, isWords, readKey, readOf, makerOf, deviceOf, unescaped, nameIn}
+use Rattle.key.proofs.Form.{key-length, escape-length}
 use Rattle.key.proofs.Reading.{read-ended}
-use Rattle.key.proofs.Writing.{key-length, escape-length}
 use Rattle.key.proofs.Keys.{key-given}
-use Rattle.key_laws.specs.Laws.{Written, Bytes, dashed, hazel, hazelK}
-use Rattle.key_laws.proofs.Served.{written, given, bytes-append, bytes-plain}
+use Rattle.key_laws.specs.Laws.{UnescapeEscape, ServedIsKey, NotKey, IsKeyWritten, NamesAreBytes, SameKey, NoKeyBeginsAnother, ReadWritten, NamesBack, dashed, DashMerges, KeysDiffer, KeyAtMost139, allEscaped, SomeKeyOf139}
+use Rattle.key_laws.proofs.Served.{gives, is-given, bytes-append, bytes-plain}
 use Rattle.key_laws.proofs.Complete.{wordsOf, words-no, read-names, read-back}
 
 -- ---- 1: unescaping an escaped name gives the name
 
-pub unescape-escape : (name : List ℕ) → unescaped (escape name) ≡ some name
+pub unescape-escape : UnescapeEscape
 unfolding unescaped
 unescape-escape name = rw (read-ended name)
 
 -- ---- 2: bytes are a key exactly when the writer gives them for some four parts
 
-pub served-is-key : (k : List ℕ) → readOf (readKey k) .answer ≡ 0 ↔ IsKey k
+pub served-is-key : ServedIsKey
 served-is-key k = (λ e. go (readKey k) refl e, λ i. rw (i .given, read-back (i .parts) (i .fit)))
   where
     go : (o : Option Parts) → readKey k ≡ o → readOf o .answer ≡ 0 → IsKey k
@@ -32,7 +32,7 @@ served-is-key k = (λ e. go (readKey k) refl e, λ i. rw (i .given, read-back (i
     go (some p) f e = let g = key-given k p f in record { parts = p; fit = g .0; given = g .1 }
 
 -- bytes that aren't a key get answer 13, numbers 0 and parts of no bytes
-pub not-key : (k : List ℕ) → (IsKey k → ⊥) → (readOf (readKey k) ≡ record { answer = 13; date = 0; serial = 0 }) × (makerOf (readKey k) ≡ []) × (deviceOf (readKey k) ≡ [])
+pub not-key : NotKey
 not-key k n = go (readKey k) refl
   where
     go : (o : Option Parts) → readKey k ≡ o → (readOf o ≡ record { answer = 13; date = 0; serial = 0 }) × (makerOf o ≡ []) × (deviceOf o ≡ [])
@@ -40,11 +40,11 @@ not-key k n = go (readKey k) refl
     go (some p) f = let g = key-given k p f in absurd (n (record { parts = p; fit = g .0; given = g .1 }))
 
 -- the same of the writer's contract: some call of it that is answered 0 puts these bytes at the front of its room
-pub is-key-written : (k : List ℕ) → IsKey k ↔ Written k
-is-key-written k = (written k, given k)
+pub is-key-written : IsKeyWritten
+is-key-written k = (gives k, is-given k)
 
 -- and the names of a key are bytes where the key's bytes are
-pub names-are-bytes : (k : List ℕ) (i : IsKey k) → Bytes k → Bytes (i .parts .maker) × Bytes (i .parts .device)
+pub names-are-bytes : NamesAreBytes
 unfolding keyOf
 names-are-bytes k i h =
     let p : Parts = i .parts in
@@ -54,12 +54,12 @@ names-are-bytes k i h =
 
 -- ---- 3: two packs have equal keys exactly when all four parts agree
 
-pub same-key : (p q : Parts) → Fit p → Fit q → keyOfParts p ≡ keyOfParts q ↔ p ≡ q
+pub same-key : SameKey
 same-key p q f g = (λ e. let s : some p ≡ some q = sym (read-back p f) ∙ ap readKey e ∙ read-back q g in cc, λ e. ap keyOfParts e)
 
 -- ---- 4: no key begins another
 
-pub no-key-begins-another : (k s : List ℕ) → IsKey k → IsKey (k ++ s) → s ≡ []
+pub no-key-begins-another : NoKeyBeginsAnother
 no-key-begins-another k s i j = none-left s (go (isWords (wordsOf (p .date) (p .serial) s)) refl)
   where
     p : Parts
@@ -82,8 +82,7 @@ no-key-begins-another k s i j = none-left s (go (isWords (wordsOf (p .date) (p .
 
 -- ---- 5: reading what was written gives what was written
 
-pub read-written : (p : Parts) → Fit p
-    → (readOf (readKey (keyOfParts p)) ≡ record { answer = 0; date = p .date; serial = p .serial }) × (makerOf (readKey (keyOfParts p)) ≡ escape (p .maker)) × (deviceOf (readKey (keyOfParts p)) ≡ escape (p .device))
+pub read-written : ReadWritten
 read-written p f = let e = read-back p f in (ap readOf e, ap makerOf e, ap deviceOf e)
 
 -- the part that a name of up to 32 bytes is shown as stands for that name
@@ -92,29 +91,33 @@ unfolding nameIn
 name-in name h = simp (le-ltb 64 (length (escape name)) (omega (arith, escape-length name))) (unescape-escape name)
 
 -- and a reader of keys gets the very names that were put in
-pub names-back : (p : Parts) → Fit p → (nameIn (makerOf (readKey (keyOfParts p))) ≡ some (p .maker)) × (nameIn (deviceOf (readKey (keyOfParts p))) ≡ some (p .device))
+pub names-back : NamesBack
 names-back p f = let e = read-back p f in (rw e (name-in (p .maker) (f .maker-fits)), rw e (name-in (p .device) (f .device-fits)))
 
 -- ---- 6: joined with a dash two packs merge, and here they have two keys
 
-pub dash-merges : dashed hazel ≡ dashed hazelK
+pub dash-merges : DashMerges
 unfolding dashed
 dash-merges = refl
 
-pub keys-differ : keyOfParts hazel ≡ keyOfParts hazelK → ⊥
+pub keys-differ : KeysDiffer
 unfolding keyOf
-keys-differ e = let z : _≡_ {A = ℕ} 47 45 = cc in omega arith
+keys-differ e = let z : _≡_ {A = ℕ} 0x2F 0x2D = cc in omega arith
 
 -- ---- 7: a key has at most 139 bytes, and some key has exactly 139
 
-pub key-at-most-139 : (k : List ℕ) → IsKey k → length k ≤ 139
+pub key-at-most-139 : KeyAtMost139
 key-at-most-139 k i =
     let p : Parts = i .parts in
     omega (arith, ap length (i .given), key-length (p .maker) (p .device) (p .date) (p .serial), escape-length (p .maker), escape-length (p .device), i .fit .maker-fits, i .fit .device-fits)
 
-abbrev longest : Parts
-longest = record { maker = replicate 32 0x2F; device = replicate 32 0x5C; date = 0; serial = 0 }
-
-pub some-key-of-139 : IsKey (keyOfParts longest) × (length (keyOfParts longest) ≡ 139)
+pub some-key-of-139 : SomeKeyOf139
 unfolding keyOf hexWord
-some-key-of-139 = (record { parts = longest; fit = record { maker-fits = omega arith; device-fits = omega arith; date-fits = omega arith; serial-fits = omega arith }; given = refl }, refl)
+some-key-of-139 = (
+  record {
+    parts = allEscaped;
+    fit = record { maker-fits = omega arith; device-fits = omega arith; date-fits = omega arith; serial-fits = omega arith };
+    given = refl;
+  },
+  refl,
+)

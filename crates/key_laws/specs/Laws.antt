@@ -1,23 +1,65 @@
--- What the theorems on keys are stated with, beside the definitions of the crate `key`. Assumes nothing: these are definitions.
+-- What is proved of pack keys, over the definitions of the crates `key` and `key_writer`. Assumes nothing: these are definitions.
 use mathlib.Core.Path.{_≡_}
+use mathlib.Core.Logic.{_↔_}
 use mathlib.Core.List.{List, [], _∷_, _++_}
-use Prim.Native.Nat.{ℕ, _<_}
-use lib.ListN.{take}
-use Rattle.key.specs.Key.{Parts, hexWord, wroteOf, roomAfter}
+use mathlib.Core.Option.{some}
+use Prim.Native.Nat.{ℕ, _≤_, _<_}
+use lib.ListN.{length, take, replicate}
+use Rattle.rooms.specs.Rooms.{Bytes}
+use Rattle.key.specs.Key.{escape, hexWord, keyOfParts, Parts, PartsFit, IsKey, readKey, readOf, makerOf, deviceOf, unescaped, nameIn}
+use Rattle.key_writer.specs.Writing.{keyWrote, keyRoom}
+
+-- 1. unescaping an escaped name gives the name
+abbrev pub UnescapeEscape : Type 0
+UnescapeEscape = (name : List ℕ) → unescaped (escape name) ≡ some name
+
+-- 2. bytes are a key exactly when the reader serves them
+abbrev pub ServedIsKey : Type 0
+ServedIsKey = (k : List ℕ) → (readOf (readKey k) .answer ≡ 0) ↔ IsKey k
+
+-- bytes that aren't a key get answer 13, numbers 0 and parts of no bytes
+abbrev pub NotKey : Type 0
+NotKey =
+    (k : List ℕ) → (IsKey k → ⊥)
+    → (readOf (readKey k) ≡ record { answer = 13; date = 0; serial = 0 }) × (makerOf (readKey k) ≡ []) × (deviceOf (readKey k) ≡ [])
 
 -- the writer gives the bytes: for some four parts and some room it answers 0 and they stand at the room's front
-pub record Written (bytes : List ℕ) : Type 0 where
+pub record WriterGives (bytes : List ℕ) : Type 0 where
   pub parts : Parts
   pub date-word : parts .date < 65536
   pub serial-word : parts .serial < 65536
   pub room : List ℕ
-  pub served : wroteOf (parts .maker) (parts .device) (parts .date) (parts .serial) room .answer ≡ 0
-  pub front : take (wroteOf (parts .maker) (parts .device) (parts .date) (parts .serial) room .length) (roomAfter (parts .maker) (parts .device) (parts .date) (parts .serial) room) ≡ bytes
+  pub served : keyWrote (parts .maker) (parts .device) (parts .date) (parts .serial) room .answer ≡ 0
+  pub front : take (keyWrote (parts .maker) (parts .device) (parts .date) (parts .serial) room .length) (keyRoom (parts .maker) (parts .device) (parts .date) (parts .serial) room) ≡ bytes
 
--- each number is a byte
-abbrev pub Bytes : List ℕ → Type 0
-Bytes [] = Unit
-Bytes (b ∷ s) = (b < 256) × Bytes s
+-- and exactly when the writer gives them for some four parts
+abbrev pub IsKeyWritten : Type 0
+IsKeyWritten = (k : List ℕ) → IsKey k ↔ WriterGives k
+
+-- whose names are bytes where the key's bytes are
+abbrev pub NamesAreBytes : Type 0
+NamesAreBytes = (k : List ℕ) (i : IsKey k) → Bytes k → Bytes (i .parts .maker) × Bytes (i .parts .device)
+
+-- 3. two packs have equal keys exactly when all four parts agree
+abbrev pub SameKey : Type 0
+SameKey = (p q : Parts) → PartsFit p → PartsFit q → (keyOfParts p ≡ keyOfParts q) ↔ (p ≡ q)
+
+-- 4. no key begins another
+abbrev pub NoKeyBeginsAnother : Type 0
+NoKeyBeginsAnother = (k s : List ℕ) → IsKey k → IsKey (k ++ s) → s ≡ []
+
+-- 5. reading what was written gives what was written
+abbrev pub ReadWritten : Type 0
+ReadWritten =
+    (p : Parts) → PartsFit p
+    → (readOf (readKey (keyOfParts p)) ≡ record { answer = 0; date = p .date; serial = p .serial })
+    × (makerOf (readKey (keyOfParts p)) ≡ escape (p .maker)) × (deviceOf (readKey (keyOfParts p)) ≡ escape (p .device))
+
+-- and a reader of keys gets the very names that were put in
+abbrev pub NamesBack : Type 0
+NamesBack =
+    (p : Parts) → PartsFit p
+    → (nameIn (makerOf (readKey (keyOfParts p))) ≡ some (p .maker)) × (nameIn (deviceOf (readKey (keyOfParts p))) ≡ some (p .device))
 
 -- the parts joined with a dash, as they once were
 unfoldable pub dashed : Parts → List ℕ
@@ -29,3 +71,21 @@ hazel = record { maker = 0x48 ∷ 0x41 ∷ 0x5A ∷ 0x45 ∷ 0x4C ∷ []; device
 
 abbrev pub hazelK : Parts
 hazelK = record { maker = 0x48 ∷ 0x41 ∷ 0x5A ∷ 0x45 ∷ 0x4C ∷ 0x2D ∷ 0x4B ∷ []; device = 0x31 ∷ 0x32 ∷ []; date = 0x526F; serial = 17 }
+
+-- 6. joined with a dash they merge, and here they have two keys
+abbrev pub DashMerges : Type 0
+DashMerges = dashed hazel ≡ dashed hazelK
+
+abbrev pub KeysDiffer : Type 0
+KeysDiffer = keyOfParts hazel ≡ keyOfParts hazelK → ⊥
+
+-- 7. a key has at most 139 bytes
+abbrev pub KeyAtMost139 : Type 0
+KeyAtMost139 = (k : List ℕ) → IsKey k → length k ≤ 139
+
+-- and that of 32 strokes and 32 escape marks has 139
+abbrev pub allEscaped : Parts
+allEscaped = record { maker = replicate 32 0x2F; device = replicate 32 0x5C; date = 0; serial = 0 }
+
+abbrev pub SomeKeyOf139 : Type 0
+SomeKeyOf139 = IsKey (keyOfParts allEscaped) × (length (keyOfParts allEscaped) ≡ 139)

@@ -1,13 +1,11 @@
 -- Document 01: what set-up gives. Answer 11 and the all-zero state, or 0 and the state of the first sample.
 -- Assumes nothing.
-use Prim.Native.Nat.{ℕ, _/_}
+use Prim.Native.Nat.{_/_}
 use mathlib.Core.Bool.{Bool, false, cond, _||_}
 use lib.Dec.{ltb, eqb}
-use lib.ListN.{replicate, set}
 use mir.Syntax.{w16}
 use mir.Val.{ofZ}
 use Rattle.pack.specs.declared.Host.{Host}
-use Rattle.pack.specs.declared.Kept.{Kept}
 use Rattle.pack.specs.declared.Latest.{Latest}
 use Rattle.pack.specs.declared.Pack.{Pack}
 use Rattle.pack.specs.declared.Sample.{Sample}
@@ -16,7 +14,9 @@ use Rattle.pack.specs.declared.Setup.{Setup}
 use Rattle.pack.specs.declared.Started.{Started}
 use Rattle.pack.specs.declared.State.{State}
 use Rattle.pack.specs.declared.Tank.{Tank}
-use Rattle.words.specs.Capacity.{milliampMs, fullyDischargedOf}
+use Rattle.pack.specs.declared.Timers.{Timers}
+use Rattle.capacity.specs.Capacity.{milliampMs, fullyDischargedOf}
+use Rattle.recent.specs.Recent.{zeroRecent, startedOf}
 
 -- design capacity, full capacity or design voltage 0, or remaining above full
 abbrev pub setUpRefused : Setup → Bool
@@ -55,10 +55,6 @@ hostOf u =
 abbrev pub latestOf : Sample → Latest
 latestOf s = record { voltage = s .voltage; current = ofZ w16 (s .current); temperature = s .temperature; counter = s .counter }
 
--- set-up counts as the first sample
-abbrev pub keptOf : ℕ → Kept
-keptOf current = record { currents = set (replicate 60 0) 0 current; count = 1 }
-
 -- charge in mA·ms; bit 4 is decided at set-up from clear
 abbrev pub tankOf : Setup → Tank
 tankOf u =
@@ -69,53 +65,74 @@ tankOf u =
       FullyDischarged = fullyDischargedOf false (milliampMs (u .remaining)) (u .full);
     }
 
--- the pack that set-up gives: no hold, the alarm timer begins at 10,000, the charger timer at 0
+-- no hold, the alarm timer begins at 10,000, the charger timer at 0
+abbrev pub firstTimers : Timers
+firstTimers = record { hold = 0; alarm = 10000; charger = 0 }
+
+-- the pack that set-up gives; set-up counts as the first sample
 unfoldable pub packOf : Setup → Sample → Pack
 packOf u first =
     record {
       settings = settingsOf u;
       host = hostOf u;
       latest = latestOf first;
-      kept = keptOf (latestOf first .current);
+      recent = startedOf (latestOf first .current);
       tank = tankOf u;
-      timers = record { hold = 0; alarm = 10000; charger = 0 };
+      timers = firstTimers;
     }
 
--- the all-zero state
-abbrev pub zeroState : State
-zeroState =
+-- ---- the all-zero state, part by part
+
+abbrev pub zeroSettings : Settings
+zeroSettings =
     record {
-      error = 0;
-      pack =
-          record {
-            settings =
-                record {
-                  DesignCapacity = 0;
-                  DesignVoltage = 0;
-                  MaxError = 0;
-                  ManufactureDate = 0;
-                  SerialNumber = 0;
-                  ChargingCurrent = 0;
-                  ChargingVoltage = 0;
-                  TemperatureLimit = 0;
-                  DischargeLimit = 0;
-                };
-            host =
-                record {
-                  ManufacturerAccess = 0;
-                  RemainingCapacityAlarm = 0;
-                  RemainingTimeAlarm = 0;
-                  AtRate = 0;
-                  AlarmMode = false;
-                  ChargerMode = false;
-                  CapacityMode = false;
-                };
-            latest = record { voltage = 0; current = 0; temperature = 0; counter = 0 };
-            kept = record { currents = replicate 60 0; count = 0 };
-            tank = record { charge = 0; full = 0; CycleCount = 0; FullyDischarged = false };
-            timers = record { hold = 0; alarm = 0; charger = 0 };
-          };
+      DesignCapacity = 0;
+      DesignVoltage = 0;
+      MaxError = 0;
+      ManufactureDate = 0;
+      SerialNumber = 0;
+      ChargingCurrent = 0;
+      ChargingVoltage = 0;
+      TemperatureLimit = 0;
+      DischargeLimit = 0;
     }
+
+abbrev pub zeroHost : Host
+zeroHost =
+    record {
+      ManufacturerAccess = 0;
+      RemainingCapacityAlarm = 0;
+      RemainingTimeAlarm = 0;
+      AtRate = 0;
+      AlarmMode = false;
+      ChargerMode = false;
+      CapacityMode = false;
+    }
+
+abbrev pub zeroLatest : Latest
+zeroLatest = record { voltage = 0; current = 0; temperature = 0; counter = 0 }
+
+abbrev pub zeroTank : Tank
+zeroTank = record { charge = 0; full = 0; CycleCount = 0; FullyDischarged = false }
+
+abbrev pub zeroTimers : Timers
+zeroTimers = record { hold = 0; alarm = 0; charger = 0 }
+
+abbrev pub zeroPack : Pack
+zeroPack =
+    record {
+      settings = zeroSettings;
+      host = zeroHost;
+      latest = zeroLatest;
+      recent = zeroRecent;
+      tank = zeroTank;
+      timers = zeroTimers;
+    }
+
+abbrev pub zeroState : State
+zeroState = record { error = 0; pack = zeroPack }
+
+-- ---- set-up
 
 -- 11 and the all-zero state where refused; else 0 and a state with error code 0
 unfoldable pub setUpOf : Setup → Sample → Started

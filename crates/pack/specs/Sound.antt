@@ -1,25 +1,47 @@
--- Document 01, Answer numbers: when a state is sound.
+-- Document 01, Answer numbers: when a state is sound, part by part.
 -- Assumes nothing.
+use Prim.Native.Nat.{ℕ}
 use mathlib.Core.Bool.{Bool, cond, not, _&&_, _||_}
 use lib.Dec.{leb, eqb}
+use Rattle.capacity.specs.Capacity.{milliampMs}
+use Rattle.pack.specs.declared.Host.{Host}
+use Rattle.pack.specs.declared.Pack.{Pack}
+use Rattle.pack.specs.declared.Settings.{Settings}
 use Rattle.pack.specs.declared.State.{State}
-use Rattle.words.specs.Capacity.{milliampMs}
+use Rattle.pack.specs.declared.Tank.{Tank}
+use Rattle.pack.specs.declared.Timers.{Timers}
+use Rattle.recent.specs.Recent.{recentSound}
 
 -- one holds exactly when the other does
 abbrev pub exactly : Bool → Bool → Bool
 exactly a b = cond a b (not b)
 
--- the three set-up conditions hold, charge lies between 0 and full, 1 to 60 samples are kept, the hold is at most 60,000,
--- the alarm timer at most 10,000, the charger timer at most 29,999 and 0 while CHARGER_MODE is set, the error code is at
--- most 7, and the alarm hold is 0 exactly when ALARM_MODE is clear
+-- two of the three set-up conditions hold: design capacity and design voltage aren't 0
+unfoldable pub settingsSound : Settings → Bool
+settingsSound s = not (eqb (s .DesignCapacity) 0) && not (eqb (s .DesignVoltage) 0)
+
+-- the third holds, full isn't 0, and charge lies between 0 and full
+unfoldable pub tankSound : Tank → Bool
+tankSound t = not (eqb (t .full) 0) && leb (t .charge) (milliampMs (t .full))
+
+-- the hold is at most 60,000, the alarm timer at most 10,000, the charger timer at most 29,999 and 0 while CHARGER_MODE is
+-- set, and the alarm hold is 0 exactly when ALARM_MODE is clear
+unfoldable pub timersSound : Host → Timers → Bool
+timersSound h t =
+    leb (t .hold) 60000
+    && leb (t .alarm) 10000
+    && leb (t .charger) 29999 && (not (h .ChargerMode) || eqb (t .charger) 0)
+    && exactly (eqb (t .hold) 0) (not (h .AlarmMode))
+
+-- the error code is at most 7
+unfoldable pub errorSound : ℕ → Bool
+errorSound code = leb code 7
+
+-- all but the error code is sound; 1 to 60 samples are kept (recentSound)
+unfoldable pub packSound : Pack → Bool
+packSound p =
+    settingsSound (p .settings) && tankSound (p .tank) && recentSound (p .recent) && timersSound (p .host) (p .timers)
+
+-- a state is sound when each of its parts is
 unfoldable pub soundOf : State → Bool
-soundOf s =
-    not (eqb (s .pack .settings .DesignCapacity) 0) && not (eqb (s .pack .tank .full) 0)
-    && not (eqb (s .pack .settings .DesignVoltage) 0)
-    && leb (s .pack .tank .charge) (milliampMs (s .pack .tank .full))
-    && leb 1 (s .pack .kept .count) && leb (s .pack .kept .count) 60
-    && leb (s .pack .timers .hold) 60000
-    && leb (s .pack .timers .alarm) 10000
-    && leb (s .pack .timers .charger) 29999 && (not (s .pack .host .ChargerMode) || eqb (s .pack .timers .charger) 0)
-    && leb (s .error) 7
-    && exactly (eqb (s .pack .timers .hold) 0) (not (s .pack .host .AlarmMode))
+soundOf s = packSound (s .pack) && errorSound (s .error)

@@ -1,8 +1,9 @@
 // The pack's state: what it remembers, when that is sound, and how set-up makes it.
 ghost use mathlib.Core.Path.{_≡_};
-ghost use Rattle.pack.specs.Sound.{soundOf, exactly};
-ghost use Rattle.pack.specs.SetUp.{setUpOf, setUpRefused, packOf, settingsOf, hostOf, latestOf, keptOf, tankOf, zeroState};
+ghost use Rattle.pack.specs.Sound.{exactly, settingsSound, tankSound, timersSound, errorSound, soundOf};
+ghost use Rattle.pack.specs.SetUp.{setUpOf, setUpRefused, packOf, settingsOf, hostOf, latestOf, tankOf, zeroSettings, zeroHost, zeroLatest, zeroTank, zeroState};
 ghost use Prim.Native.Nat.{_<_};
+use recent::Recent;
 
 // What set-up fixes.
 pub struct Settings {
@@ -36,12 +37,6 @@ pub struct Latest {
     pub counter: u32,
 }
 
-// The kept samples: the newest first, as many as count says.
-pub struct Kept {
-    pub currents: [u16; 60],
-    pub count: usize,
-}
-
 // Charge in mA·ms; full capacity in mAh; FullyDischarged is bit 4 of BatteryStatus.
 pub struct Tank {
     pub charge: u64,
@@ -62,7 +57,7 @@ pub struct Pack {
     pub settings: Settings,
     pub host: Host,
     pub latest: Latest,
-    pub kept: Kept,
+    pub recent: Recent,
     pub tank: Tank,
     pub timers: Timers,
 }
@@ -108,34 +103,49 @@ fn agree(a: bool, b: bool) -> bool
     if a { b } else { !b }
 }
 
-// Whether a state is sound.
+fn settings_sound(s: Settings) -> bool
+    ensures { λ r. ⌜ r ≡ settingsSound s ⌝ }
+{
+    (s.DesignCapacity != 0) & (s.DesignVoltage != 0)
+}
+
+fn tank_sound(t: Tank) -> bool
+    ensures { λ r. ⌜ r ≡ tankSound t ⌝ }
+{
+    (t.full != 0) & (t.charge <= capacity::milliamp_ms(t.full))
+}
+
+fn timers_sound(h: Host, t: Timers) -> bool
+    ensures { λ r. ⌜ r ≡ timersSound h t ⌝ }
+{
+    (t.hold <= 60000)
+        & (t.alarm <= 10000)
+        & (t.charger <= 29999)
+        & (!h.ChargerMode | (t.charger == 0))
+        & agree(t.hold == 0, !h.AlarmMode)
+}
+
+fn error_sound(code: u8) -> bool
+    ensures { λ r. ⌜ r ≡ errorSound code ⌝ }
+{
+    code <= 7
+}
+
+// Whether a state is sound: each of its parts is.
 pub fn sound(s: State) -> bool
     ensures { λ r. ⌜ r ≡ soundOf s ⌝ }
 {
-    let settings = s.pack.settings;
-    let tank = s.pack.tank;
-    let timers = s.pack.timers;
-    let host = s.pack.host;
-    let count = s.pack.kept.count;
-    (settings.DesignCapacity != 0)
-        & (tank.full != 0)
-        & (settings.DesignVoltage != 0)
-        & (tank.charge <= words::milliamp_ms(tank.full))
-        & (1 <= count)
-        & (count <= 60)
-        & (timers.hold <= 60000)
-        & (timers.alarm <= 10000)
-        & (timers.charger <= 29999)
-        & (!host.ChargerMode | (timers.charger == 0))
-        & (s.error <= 7)
-        & agree(timers.hold == 0, !host.AlarmMode)
+    settings_sound(s.pack.settings)
+        & tank_sound(s.pack.tank)
+        & recent::sound(s.pack.recent)
+        & timers_sound(s.pack.host, s.pack.timers)
+        & error_sound(s.error)
 }
 
-// The all-zero state, which isn't sound.
-pub fn zero() -> State
-    ensures { λ r. ⌜ r ≡ zeroState ⌝ }
+fn zero_settings() -> Settings
+    ensures { λ r. ⌜ r ≡ zeroSettings ⌝ }
 {
-    let settings = Settings {
+    Settings {
         DesignCapacity: 0,
         DesignVoltage: 0,
         MaxError: 0,
@@ -145,8 +155,13 @@ pub fn zero() -> State
         ChargingVoltage: 0,
         TemperatureLimit: 0,
         DischargeLimit: 0,
-    };
-    let host = Host {
+    }
+}
+
+fn zero_host() -> Host
+    ensures { λ r. ⌜ r ≡ zeroHost ⌝ }
+{
+    Host {
         ManufacturerAccess: 0,
         RemainingCapacityAlarm: 0,
         RemainingTimeAlarm: 0,
@@ -154,24 +169,40 @@ pub fn zero() -> State
         AlarmMode: false,
         ChargerMode: false,
         CapacityMode: false,
-    };
-    let latest = Latest {
+    }
+}
+
+fn zero_latest() -> Latest
+    ensures { λ r. ⌜ r ≡ zeroLatest ⌝ }
+{
+    Latest {
         voltage: 0,
         current: 0,
         temperature: 0,
         counter: 0,
-    };
-    let currents = [0u16; 60];
-    let kept = Kept {
-        currents: currents,
-        count: 0,
-    };
-    let tank = Tank {
+    }
+}
+
+fn zero_tank() -> Tank
+    ensures { λ r. ⌜ r ≡ zeroTank ⌝ }
+{
+    Tank {
         charge: 0,
         full: 0,
         CycleCount: 0,
         FullyDischarged: false,
-    };
+    }
+}
+
+// The all-zero state, which isn't sound.
+pub fn zero() -> State
+    ensures { λ r. ⌜ r ≡ zeroState ⌝ }
+{
+    let settings = zero_settings();
+    let host = zero_host();
+    let latest = zero_latest();
+    let recent = recent::zero();
+    let tank = zero_tank();
     let timers = Timers {
         hold: 0,
         alarm: 0,
@@ -181,7 +212,7 @@ pub fn zero() -> State
         settings: settings,
         host: host,
         latest: latest,
-        kept: kept,
+        recent: recent,
         tank: tank,
         timers: timers,
     };
@@ -240,24 +271,13 @@ pub fn latest_of(s: Sample) -> Latest
     }
 }
 
-fn kept_of(current: u16) -> Kept
-    ensures { λ r. ⌜ r ≡ keptOf current ⌝ }
-{
-    let mut currents = [0u16; 60];
-    currents[0] = current;
-    Kept {
-        currents: currents,
-        count: 1,
-    }
-}
-
 fn tank_of(u: Setup) -> Tank
     requires { ⌜ 0 < u .full ⌝ }
     ensures { λ r. ⌜ r ≡ tankOf u ⌝ }
 {
-    let charge = words::milliamp_ms(u.remaining);
+    let charge = capacity::milliamp_ms(u.remaining);
     let full = u.full;
-    let empty = words::fully_discharged(false, charge, full);
+    let empty = capacity::fully_discharged(false, charge, full);
     Tank {
         charge: charge,
         full: full,
@@ -273,7 +293,7 @@ fn pack_of(u: Setup, first: Sample) -> Pack
     let settings = settings_of(u);
     let host = host_of(u);
     let latest = latest_of(first);
-    let kept = kept_of(latest.current);
+    let recent = recent::started(latest.current);
     let tank = tank_of(u);
     let timers = Timers {
         hold: 0,
@@ -284,7 +304,7 @@ fn pack_of(u: Setup, first: Sample) -> Pack
         settings: settings,
         host: host,
         latest: latest,
-        kept: kept,
+        recent: recent,
         tank: tank,
         timers: timers,
     }

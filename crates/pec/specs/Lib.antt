@@ -1,2 +1,3 @@
 pub mod Pec
+pub mod Table
 pub mod Messages

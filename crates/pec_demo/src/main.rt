@@ -65,12 +65,8 @@ fn pec_of_text(start: u8, text: &[u8]) -> u8
     acc
 }
 
-fn wide(b: u8) -> u64 {
-    b as u64
-}
-
 fn print_byte(b: u8) {
-    io::print_hex(STDOUT_FILENO, wide(b), 2);
+    io::print_hex(STDOUT_FILENO, b as u64, 2);
     io::write_all(STDOUT_FILENO, b" ");
 }
 
@@ -84,7 +80,7 @@ fn print_bytes(text: &[u8]) {
 
 fn print_pec(acc: u8) {
     io::write_all(STDOUT_FILENO, b"-> ");
-    io::print_hex(STDOUT_FILENO, wide(acc), 2);
+    io::print_hex(STDOUT_FILENO, acc as u64, 2);
     io::write_all(STDOUT_FILENO, b"\n");
 }
 

@@ -10,7 +10,8 @@ use lib.Bits.{bitXor, xor-zero-r}
 use lib.Count.{ones}
 use Rattle.pec.specs.Pec.{bitStep, byteStep, pecFrom}
 use Rattle.pec.proofs.Bounds.{bitStep-lt}
-use Rattle.pec_laws.specs.Places.{Bytes, bit, bitsOf}
+use Rattle.rooms.specs.Rooms.{Bytes}
+use Rattle.pec_laws.specs.Places.{weightSet, bitsOf}
 use Rattle.pec_laws.proofs.Xor.{bitStep-xor, byteStep-xor, xor-assoc}
 use Rattle.pec_laws.proofs.Every.{same-each}
 use Rattle.pec_laws.proofs.Orbit.{run}
@@ -31,7 +32,7 @@ weight (false ∷ bs) = weight bs
 
 -- the bits of one byte
 abbrev pub byte : ℕ → List Bool
-byte x = bit 128 x ∷ bit 64 x ∷ bit 32 x ∷ bit 16 x ∷ bit 8 x ∷ bit 4 x ∷ bit 2 x ∷ bit 1 x ∷ []
+byte x = weightSet 128 x ∷ weightSet 64 x ∷ weightSet 32 x ∷ weightSet 16 x ∷ weightSet 8 x ∷ weightSet 4 x ∷ weightSet 2 x ∷ weightSet 1 x ∷ []
 
 -- ---- bounds
 

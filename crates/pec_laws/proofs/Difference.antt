@@ -12,7 +12,8 @@ use lib.Bits.{bitXor, xor-lt, xor-shr, xor-mod, xor-self}
 use lib.Count.{ones}
 use Rattle.pec.specs.Pec.{byteStep, pecFrom, pecOf}
 use Rattle.pec.specs.Messages.{bitsApart}
-use Rattle.pec_laws.specs.Places.{Bytes, xorAll, bit, bitsOf, bitAt}
+use Rattle.rooms.specs.Rooms.{Bytes}
+use Rattle.pec_laws.specs.Places.{xorAll, weightSet, bitsOf, bitAt}
 use Rattle.pec_laws.proofs.Xor.{by-bit, xor-none, xor-swap, byteStep-xor}
 use Rattle.pec_laws.proofs.Every.{each, or-at, eq→eqb}
 use Rattle.pec_laws.proofs.Bits.{weight, byte, weight-append, ones-byte}
@@ -69,9 +70,9 @@ none-apart (x ∷ xs) (y ∷ ys) h k l e =
     ap₂ (λ (z : ℕ) (zs : List ℕ). z ∷ zs) (xor-none x y (ones-none (bitXor x y) (xor-lt 8 x y (h .0) (k .0)) (omega arith)))
     (none-apart xs ys (h .1) (k .1) (omega arith) (omega arith))
 
-bit-xor : (k x y : ℕ) → bit (2 ^ k) (bitXor x y) ≡ xor (bit (2 ^ k) x) (bit (2 ^ k) y)
+weight-xor : (k x y : ℕ) → weightSet (2 ^ k) (bitXor x y) ≡ xor (weightSet (2 ^ k) x) (weightSet (2 ^ k) y)
 unfolding xor
-bit-xor k x y =
+weight-xor k x y =
     ap (λ (z : ℕ). eqb (z % 2) 1) (xor-shr x y k) ∙ ap (λ (z : ℕ). eqb z 1) (xor-mod (x / 2 ^ k) (y / 2 ^ k) 1)
     ∙ go (x / 2 ^ k % 2) (y / 2 ^ k % 2) (mod-lt (x / 2 ^ k) (zero-lt-suc 1)) (mod-lt (y / 2 ^ k) (zero-lt-suc 1))
   where
@@ -86,14 +87,14 @@ unfolding bitsOf xorAll xor
 at-xor [] [] i l = refl
 at-xor [] (y ∷ ys) i l = absurd (omega arith)
 at-xor (x ∷ xs) [] i l = absurd (omega arith)
-at-xor (x ∷ xs) (y ∷ ys) zero l = bit-xor 7 x y
-at-xor (x ∷ xs) (y ∷ ys) (suc zero) l = bit-xor 6 x y
-at-xor (x ∷ xs) (y ∷ ys) (suc (suc zero)) l = bit-xor 5 x y
-at-xor (x ∷ xs) (y ∷ ys) (suc (suc (suc zero))) l = bit-xor 4 x y
-at-xor (x ∷ xs) (y ∷ ys) (suc (suc (suc (suc zero)))) l = bit-xor 3 x y
-at-xor (x ∷ xs) (y ∷ ys) (suc (suc (suc (suc (suc zero))))) l = bit-xor 2 x y
-at-xor (x ∷ xs) (y ∷ ys) (suc (suc (suc (suc (suc (suc zero)))))) l = bit-xor 1 x y
-at-xor (x ∷ xs) (y ∷ ys) (suc (suc (suc (suc (suc (suc (suc zero))))))) l = bit-xor 0 x y
+at-xor (x ∷ xs) (y ∷ ys) zero l = weight-xor 7 x y
+at-xor (x ∷ xs) (y ∷ ys) (suc zero) l = weight-xor 6 x y
+at-xor (x ∷ xs) (y ∷ ys) (suc (suc zero)) l = weight-xor 5 x y
+at-xor (x ∷ xs) (y ∷ ys) (suc (suc (suc zero))) l = weight-xor 4 x y
+at-xor (x ∷ xs) (y ∷ ys) (suc (suc (suc (suc zero)))) l = weight-xor 3 x y
+at-xor (x ∷ xs) (y ∷ ys) (suc (suc (suc (suc (suc zero))))) l = weight-xor 2 x y
+at-xor (x ∷ xs) (y ∷ ys) (suc (suc (suc (suc (suc (suc zero)))))) l = weight-xor 1 x y
+at-xor (x ∷ xs) (y ∷ ys) (suc (suc (suc (suc (suc (suc (suc zero))))))) l = weight-xor 0 x y
 at-xor (x ∷ xs) (y ∷ ys) (suc (suc (suc (suc (suc (suc (suc (suc i)))))))) l = at-xor xs ys i (omega arith)
 
 pub apart-true : (a b : Bool) → (a ≡ b → ⊥) → xor a b ≡ true

@@ -13,7 +13,8 @@ use lib.Bits.{bitXor}
 use lib.Count.{ones}
 use Rattle.pec.specs.Pec.{bitStep, byteStep, pecFrom, pecOf}
 use Rattle.pec.specs.Messages.{endsInPec, bitsApart}
-use Rattle.pec_laws.specs.Places.{Bytes, xorAll, bitsOf, bitAt, Apart}
+use Rattle.rooms.specs.Rooms.{Bytes}
+use Rattle.pec_laws.specs.Places.{xorAll, bitsOf, bitAt, Apart}
 use Rattle.pec_laws.specs.Faults.{Rights, Linear, FourBits, EvenBits, NoBurst, TwoBits, TwoBitsTo37, Caught, Misheard, FourIsSharp, FifteenIsSharp, EightIsSharp}
 use Rattle.pec_laws.proofs.Every.{and-left, and-right}
 use Rattle.pec_laws.proofs.Bits.{crc, weight, pec-bits}

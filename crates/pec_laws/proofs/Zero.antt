@@ -14,7 +14,8 @@ use Rattle.pec.specs.Pec.{bitStep, byteStep, pecFrom, pecOf}
 use Rattle.pec.specs.Messages.{endsInPec}
 use Rattle.pec.proofs.Bounds.{bitStep-lt, byteStep-lt, pecFrom-lt, pec-lt}
 use Rattle.pec.proofs.Join.{join}
-use Rattle.pec_laws.specs.Places.{Bytes}
+use Rattle.rooms.proofs.Rooms.{byte-at}
+use Rattle.rooms.specs.Rooms.{Bytes}
 use Rattle.pec_laws.specs.Faults.{RightIsNone}
 use Rattle.pec_laws.proofs.Xor.{xor-none, xor-cancel, byteStep-xor}
 use Rattle.pec_laws.proofs.Orbit.{bitStep-none}
@@ -45,16 +46,6 @@ right-iff xs p h = (to, from)
     from e =
         sym (join 0 xs (p ∷ [])) ∙ ap (λ (q : ℕ). byteStep (bitXor (pecOf xs) q)) e ∙ ap byteStep (xor-self (pecOf xs)) ∙ byteStep-zero
 
-at-byte : (xs : List ℕ) → Bytes xs → (i : ℕ) → getD xs i 0 < 256
-at-byte [] h i = lit< tt
-at-byte (x ∷ xs) h zero = h .0
-at-byte (x ∷ xs) h (suc i) = at-byte xs (h .1) i
-
--- what is known of a lent slice, that each of its elements is a byte, as the theorems take it
-pub all-bytes : (xs : List ℕ) → ((i : ℕ) → getD xs i 0 < 256) → Bytes xs
-all-bytes [] h = tt
-all-bytes (x ∷ xs) h = (h zero, all-bytes xs (λ i. h (suc i)))
-
 pub right-is-none : RightIsNone
 unfolding endsInPec
 right-is-none xs h k = (λ r. ap pecOf whole ∙ iff .1 (eqb-true _ _ (r .1)), λ e. (k, eq-eqb _ _ (iff .0 (sym (ap pecOf whole) ∙ e))))
@@ -63,7 +54,7 @@ right-is-none xs h k = (λ r. ap pecOf whole ∙ iff .1 (eqb-true _ _ (r .1)), �
     n = length xs - 1
 
     iff : (pecOf (take n xs ++ getD xs n 0 ∷ []) ≡ 0) ↔ (getD xs n 0 ≡ pecOf (take n xs))
-    iff = right-iff (take n xs) (getD xs n 0) (at-byte xs h n)
+    iff = right-iff (take n xs) (getD xs n 0) (byte-at xs h n)
 
     whole : xs ≡ take n xs ++ getD xs n 0 ∷ []
     whole = split-at xs n 0 (omega arith) ∙ ap (λ (t : List ℕ). take n xs ++ getD xs n 0 ∷ t) (drop-of-length-le xs {i = suc n} (omega arith))

@@ -8,7 +8,8 @@ use lib.Bits.{bitXor}
 use lib.ListN.{length}
 use Rattle.pec.specs.Pec.{pecOf}
 use Rattle.pec.specs.Messages.{Right, bitsApart}
-use Rattle.pec_laws.specs.Places.{Bytes, xorAll, Apart}
+use Rattle.rooms.specs.Rooms.{Bytes}
+use Rattle.pec_laws.specs.Places.{xorAll, Apart}
 
 -- two messages of one length
 abbrev pub Pair : List ℕ → List ℕ → Type 0

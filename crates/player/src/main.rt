@@ -32,21 +32,21 @@ fn beginning() -> State {
     started.state
 }
 
-fn wide(b: u8) -> u64 {
-    b as u64
+fn print_byte(b: u8) {
+    io::print_hex(STDOUT_FILENO, b as u64, 2);
 }
 
 fn print_reply(reply: &[u8]) {
     let mut i = 0;
     while i < reply.len() {
-        io::print_hex(STDOUT_FILENO, wide(reply[i]), 2);
+        print_byte(reply[i]);
         i += 1;
     }
 }
 
 // The answer, then a space and the reply at the front of the room if there is one.
 fn print_line(answer: u8, room: &[u8], length: usize) {
-    io::print_decimal(STDOUT_FILENO, wide(answer));
+    io::print_decimal(STDOUT_FILENO, answer as u64);
     if length == 0 {
         io::write_all(STDOUT_FILENO, b"\n");
         return;

@@ -1,19 +1,13 @@
 -- Document 01, Registers: the words that are numbers of their own, each a function of the pack without its error code.
 -- Assumes nothing.
-use Prim.Native.Nat.{ℕ, _+_, _-_, _*_, _/_, _^_, _≤_}
+use Prim.Native.Nat.{ℕ, _+_, _-_, _*_, _/_, _^_}
 use mathlib.Core.Bool.{Bool, cond}
 use lib.Dec.{leb}
-use Rattle.average.specs.Average.{averageOf}
+use Rattle.recent.specs.Recent.{averageOf}
 use Rattle.pack.specs.declared.Host.{Host}
 use Rattle.pack.specs.declared.Pack.{Pack}
-use Rattle.words.specs.Capacity.{minutesOf, powerOf, energyOf, cappedWord, milliampMs, percentOf, relativeOf}
+use Rattle.capacity.specs.Capacity.{minutesOf, powerOf, energyOf, cappedWord, percentOf, relativeOf}
 use Rattle.words.specs.Words.{above, below, sizeOf}
-
--- what a sound state says of charge and of the kept samples
-pub record Measured (p : Pack) : Type 0 where
-  pub charge : p .tank .charge ≤ milliampMs (p .tank .full)
-  pub some : 1 ≤ p .kept .count
-  pub most : p .kept .count ≤ 60
 
 -- what bit k adds to a word
 abbrev pub bit : ℕ → Bool → ℕ
@@ -94,8 +88,8 @@ runTimeToEmpty p = timeToEmptyAt p (p .latest .current)
 
 -- 12 AverageTimeToEmpty: from the mean
 abbrev pub averageTimeToEmpty : Pack → ℕ
-averageTimeToEmpty p = timeToEmptyAt p (averageOf (p .kept))
+averageTimeToEmpty p = timeToEmptyAt p (averageOf (p .recent))
 
 -- 13 AverageTimeToFull: from the mean, on full minus remaining, as 05
 abbrev pub averageTimeToFull : Pack → ℕ
-averageTimeToFull p = minutesIf (above (averageOf (p .kept))) (missing p) (rateOf p (averageOf (p .kept)))
+averageTimeToFull p = minutesIf (above (averageOf (p .recent))) (missing p) (rateOf p (averageOf (p .recent)))

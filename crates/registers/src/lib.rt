@@ -1,9 +1,10 @@
 // The words that are numbers of their own: pure functions of the pack. Only our own crates call these.
 ghost use mathlib.Core.Path.{_≡_};
-ghost use mathlib.Core.Bool.{cond};
-ghost use Prim.Native.Nat.{_≤_, _<_};
-ghost use Rattle.registers.specs.Registers.{Measured, batteryMode, capacityOf, remainingCapacity, fullChargeCapacity, designCapacity, relativeStateOfCharge, absoluteStateOfCharge, minutesIf, missing, atRateTimeToEmpty, atRateTimeToFull, presentDischarge, covers, atRateOK, rateOf, timeToEmptyAt, runTimeToEmpty, averageTimeToEmpty, averageTimeToFull};
-ghost use Rattle.words.specs.Capacity.{milliampMs};
+ghost use mathlib.Core.Bool.{true, cond};
+ghost use Prim.Native.Nat.{_≤_};
+ghost use Rattle.registers.specs.Registers.{batteryMode, capacityOf, remainingCapacity, fullChargeCapacity, designCapacity, relativeStateOfCharge, absoluteStateOfCharge, minutesIf, missing, atRateTimeToEmpty, atRateTimeToFull, presentDischarge, covers, atRateOK, rateOf, timeToEmptyAt, runTimeToEmpty, averageTimeToEmpty, averageTimeToFull};
+ghost use Rattle.pack.specs.Sound.{settingsSound, tankSound};
+ghost use Rattle.recent.specs.Recent.{recentSound};
 use pack::Host;
 use pack::Pack;
 
@@ -27,18 +28,18 @@ fn capacity_of(p: Pack, capacity: u16) -> u16
     ensures { λ r. ⌜ r ≡ capacityOf p capacity ⌝ }
 {
     if p.host.CapacityMode {
-        return words::capped(words::power(capacity as u64, p.settings.DesignVoltage));
+        return capacity::capped(capacity::power(capacity as u64, p.settings.DesignVoltage));
     }
     capacity
 }
 
 // 0F RemainingCapacity.
 pub fn remaining_capacity(p: Pack) -> u16
-    requires { ⌜ p .tank .charge ≤ milliampMs (p .tank .full) ⌝ }
+    requires { ⌜ tankSound (p .tank) ≡ true ⌝ }
     ensures { λ r. ⌜ r ≡ remainingCapacity p ⌝ }
 {
     if p.host.CapacityMode {
-        return words::capped(words::energy(p.tank.charge, p.settings.DesignVoltage));
+        return capacity::capped(capacity::energy(p.tank.charge, p.settings.DesignVoltage));
     }
     (p.tank.charge / 3600000) as u16
 }
@@ -59,18 +60,18 @@ pub fn design_capacity(p: Pack) -> u16
 
 // 0D RelativeStateOfCharge.
 pub fn relative_state_of_charge(p: Pack) -> u16
-    requires { ⌜ (p .tank .charge ≤ milliampMs (p .tank .full)) × (0 < p .tank .full) ⌝ }
+    requires { ⌜ tankSound (p .tank) ≡ true ⌝ }
     ensures { λ r. ⌜ r ≡ relativeStateOfCharge p ⌝ }
 {
-    words::relative(p.tank.charge, p.tank.full)
+    capacity::relative(p.tank.charge, p.tank.full)
 }
 
 // 0E AbsoluteStateOfCharge.
 pub fn absolute_state_of_charge(p: Pack) -> u16
-    requires { ⌜ (p .tank .charge ≤ milliampMs (p .tank .full)) × (0 < p .settings .DesignCapacity) ⌝ }
+    requires { ⌜ (settingsSound (p .settings) ≡ true) × (tankSound (p .tank) ≡ true) ⌝ }
     ensures { λ r. ⌜ r ≡ absoluteStateOfCharge p ⌝ }
 {
-    words::capped(words::percent(p.tank.charge, p.settings.DesignCapacity))
+    capacity::capped(capacity::percent(p.tank.charge, p.settings.DesignCapacity))
 }
 
 // Minutes if the rate flows the command's way.
@@ -78,14 +79,14 @@ fn minutes_if(flows: bool, capacity: u16, rate: u32) -> u16
     ensures { λ r. ⌜ r ≡ minutesIf flows capacity rate ⌝ }
 {
     if flows {
-        return words::minutes(capacity, rate);
+        return capacity::minutes(capacity, rate);
     }
     65535
 }
 
 // 06 AtRateTimeToEmpty.
 pub fn at_rate_time_to_empty(p: Pack) -> u16
-    requires { ⌜ p .tank .charge ≤ milliampMs (p .tank .full) ⌝ }
+    requires { ⌜ tankSound (p .tank) ≡ true ⌝ }
     ensures { λ r. ⌜ r ≡ atRateTimeToEmpty p ⌝ }
 {
     let flows = words::falls(p.host.AtRate);
@@ -96,7 +97,7 @@ pub fn at_rate_time_to_empty(p: Pack) -> u16
 
 // Full minus remaining, of the words 10 and 0F.
 fn missing_capacity(p: Pack) -> u16
-    requires { ⌜ p .tank .charge ≤ milliampMs (p .tank .full) ⌝ }
+    requires { ⌜ tankSound (p .tank) ≡ true ⌝ }
     ensures { λ r. ⌜ r ≡ missing p ⌝ }
 {
     let full = full_charge_capacity(p);
@@ -106,7 +107,7 @@ fn missing_capacity(p: Pack) -> u16
 
 // 05 AtRateTimeToFull.
 pub fn at_rate_time_to_full(p: Pack) -> u16
-    requires { ⌜ p .tank .charge ≤ milliampMs (p .tank .full) ⌝ }
+    requires { ⌜ tankSound (p .tank) ≡ true ⌝ }
     ensures { λ r. ⌜ r ≡ atRateTimeToFull p ⌝ }
 {
     if p.host.CapacityMode {
@@ -131,14 +132,14 @@ fn present_discharge(p: Pack) -> u32
 
 // Whether charge covers 10 s of the rate beside the present discharge.
 fn covers_it(p: Pack) -> bool
-    requires { ⌜ p .tank .charge ≤ milliampMs (p .tank .full) ⌝ }
+    requires { ⌜ tankSound (p .tank) ≡ true ⌝ }
     ensures { λ r. ⌜ r ≡ covers p ⌝ }
 {
     let rate = words::size(p.host.AtRate) as u64;
     let drawn = present_discharge(p) as u64;
     if p.host.CapacityMode {
-        let used = words::product(drawn, p.settings.DesignVoltage);
-        let held = words::product(p.tank.charge, p.settings.DesignVoltage);
+        let used = capacity::product(drawn, p.settings.DesignVoltage);
+        let held = capacity::product(p.tank.charge, p.settings.DesignVoltage);
         return 10000 * (10000 * rate + used) <= held;
     }
     10000 * (rate + drawn) <= p.tank.charge
@@ -146,7 +147,7 @@ fn covers_it(p: Pack) -> bool
 
 // 07 AtRateOK.
 pub fn at_rate_ok(p: Pack) -> u16
-    requires { ⌜ p .tank .charge ≤ milliampMs (p .tank .full) ⌝ }
+    requires { ⌜ tankSound (p .tank) ≡ true ⌝ }
     ensures { λ r. ⌜ r ≡ atRateOK p ⌝ }
 {
     if words::falls(p.host.AtRate) {
@@ -161,14 +162,14 @@ fn rate_of(p: Pack, current: u16) -> u32
 {
     let size = words::size(current);
     if p.host.CapacityMode {
-        return words::power(size as u64, p.latest.voltage) as u32;
+        return capacity::power(size as u64, p.latest.voltage) as u32;
     }
     size
 }
 
 // Minutes until empty at a current.
 fn time_to_empty_at(p: Pack, current: u16) -> u16
-    requires { ⌜ p .tank .charge ≤ milliampMs (p .tank .full) ⌝ }
+    requires { ⌜ tankSound (p .tank) ≡ true ⌝ }
     ensures { λ r. ⌜ r ≡ timeToEmptyAt p current ⌝ }
 {
     let flows = words::falls(current);
@@ -179,7 +180,7 @@ fn time_to_empty_at(p: Pack, current: u16) -> u16
 
 // 11 RunTimeToEmpty.
 pub fn run_time_to_empty(p: Pack) -> u16
-    requires { ⌜ p .tank .charge ≤ milliampMs (p .tank .full) ⌝ }
+    requires { ⌜ tankSound (p .tank) ≡ true ⌝ }
     ensures { λ r. ⌜ r ≡ runTimeToEmpty p ⌝ }
 {
     time_to_empty_at(p, p.latest.current)
@@ -187,20 +188,20 @@ pub fn run_time_to_empty(p: Pack) -> u16
 
 // 12 AverageTimeToEmpty.
 pub fn average_time_to_empty(p: Pack) -> u16
-    requires { ⌜ Measured p ⌝ }
+    requires { ⌜ (tankSound (p .tank) ≡ true) × (recentSound (p .recent) ≡ true) ⌝ }
     ensures { λ r. ⌜ r ≡ averageTimeToEmpty p ⌝ }
 {
-    let kept = p.kept;
-    time_to_empty_at(p, average::average(kept))
+    let recent = p.recent;
+    time_to_empty_at(p, recent::average(recent))
 }
 
 // 13 AverageTimeToFull.
 pub fn average_time_to_full(p: Pack) -> u16
-    requires { ⌜ Measured p ⌝ }
+    requires { ⌜ (tankSound (p .tank) ≡ true) × (recentSound (p .recent) ≡ true) ⌝ }
     ensures { λ r. ⌜ r ≡ averageTimeToFull p ⌝ }
 {
-    let kept = p.kept;
-    let current = average::average(kept);
+    let recent = p.recent;
+    let current = recent::average(recent);
     let flows = words::rises(current);
     let left = missing_capacity(p);
     let rate = rate_of(p, current);

@@ -1,36 +1,44 @@
--- How many bytes the parts of a sheet have. Assumes nothing.
-use mathlib.Core.Path.{_≡_, refl}
+-- How many bytes a sheet has. Assumes nothing.
+use mathlib.Core.Path.{_≡_, refl, _∙_}
 use mathlib.Core.Bool.{true}
 use mathlib.Core.List.{List, [], _∷_}
-use mathlib.Core.Option.{none, some}
-use Prim.Native.Nat.{ℕ, _+_, _*_, _≤_}
+use Prim.Native.Nat.{ℕ, zero, suc, _+_, _*_, _≤_}
 use native.Mathlib.Omega.{arith}
-use lib.Dec.{leb}
-use lib.ListN.{length, length-append}
-use borrow.Author.Tests.{leb-true}
-use Rattle.sheet.specs.Sheet.{Entry, rowsOf, contentsOf, bodiesOf, Choice, listed, sheetOf, short}
-use Rattle.sheet.proofs.Rows.{both}
+use lib.ListN.{length}
+use borrow.Author.Tests.{eqb-true}
+use Rattle.sheet.specs.Sheet.{Entry, TagKind, Form, old, rowsOf, rowsAndBodies, longest, tagAt, lengthAt, rowsListed, rowsOk, isSheetOf, isSheet}
+use Rattle.sheet.proofs.Tags.{over, over-one, over-all}
+use Rattle.sheet.proofs.Rows.{first-right, contents}
+
+abbrev size : TagKind → ℕ
+size k = 4 + k .most
+
+rows-most : (ks : List TagKind) (n : ℕ) (s : List ℕ) (at low end : ℕ) → rowsOk ks n s at low end ≡ true → length s + 4 * n ≤ end + over size low ks
+unfolding rowsOk
+rows-most ks zero s at low end e = omega (arith, eqb-true end (length s) e)
+rows-most ks (suc n) s at low end e =
+    let f = first-right ks n s at low end e in
+    omega (
+      arith,
+      rows-most ks n s (at + 4) (tagAt s at + 1) (end + lengthAt s at) (f .1),
+      over-one size (4 + lengthAt s at) low (tagAt s at) (lengthAt s at) ks (λ k h. omega arith) (f .0 .least) (f .0 .allowed),
+    )
+
+all-kinds : (ks : List TagKind) → over size 0 ks ≡ rowsAndBodies ks
+unfolding over
+all-kinds [] = refl
+all-kinds (k ∷ ks) = omega (arith, over-all size k ks, all-kinds ks)
+
+-- a sheet has at most a row and the longest body for each kind
+pub at-most : (f : Form) (s : List ℕ) → isSheetOf f s ≡ true → length s ≤ longest f
+at-most f s e =
+    let c = contents f s e in
+    omega (arith, rows-most (f .kinds) (rowsListed s) s 1 0 (1 + 4 * rowsListed s) (c .rows), all-kinds (f .kinds))
+
+pub at-most-145 : (s : List ℕ) → isSheet s ≡ true → length s ≤ 145
+unfolding old
+at-most-145 s e = at-most old s e
 
 pub rows-length : (es : List Entry) (offset : ℕ) → length (rowsOf offset es) ≡ 4 * length es
 rows-length [] offset = refl
 rows-length (e ∷ es) offset = omega (arith, rows-length es (offset + length (e .body)))
-
-pub few-listed : (tag : ℕ) (bs : Choice) → length (listed tag bs) ≤ length bs
-few-listed tag [] = omega arith
-few-listed tag (none ∷ bs) = omega (arith, few-listed (tag + 1) bs)
-few-listed tag (some b ∷ bs) = omega (arith, few-listed (tag + 1) bs)
-
-few-bytes : (tag : ℕ) (bs : Choice) → short bs ≡ true → length (bodiesOf (listed tag bs)) ≤ 32 * length bs
-few-bytes tag [] e = omega arith
-few-bytes tag (none ∷ bs) e = omega (arith, few-bytes (tag + 1) bs e)
-few-bytes tag (some b ∷ bs) e =
-    let s = both (leb (length b) 32) (short bs) e in
-    omega (arith, few-bytes (tag + 1) bs (s .1), leb-true (length b) 32 (s .0), length-append b (bodiesOf (listed (tag + 1) bs)))
-
-pub sheet-length : (bs : Choice) → length (sheetOf bs) ≡ 1 + 4 * length (listed 32 bs) + length (bodiesOf (listed 32 bs))
-unfolding sheetOf
-sheet-length bs = omega (arith, length-append (contentsOf (length (listed 32 bs)) (listed 32 bs)) (bodiesOf (listed 32 bs)), rows-length (listed 32 bs) (1 + 4 * length (listed 32 bs)))
-
--- 36 bytes for each tag, and byte n: for four tags at most 145
-pub sheet-bound : (bs : Choice) → short bs ≡ true → length (sheetOf bs) ≤ 1 + 36 * length bs
-sheet-bound bs e = omega (arith, sheet-length bs, few-listed 32 bs, few-bytes 32 bs e)

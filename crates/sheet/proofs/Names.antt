@@ -9,8 +9,10 @@ use lib.ListN.{length, getD, length-take}
 use borrow.Author.Tests.{eq-eqb, ne-eqb}
 use Rattle.sheet.specs.declared.Found.{Found}
 use Rattle.sheet.specs.declared.Found.the-variants.{At, Nothing}
-use Rattle.sheet.specs.Sheet.{tagAt, lengthAt, offsetAt, rowsOk, isSheet}
-use Rattle.sheet.specs.Block.{findRow, findIn, between, Part, ofService, ofFactory, firstOf, partOf, bytesOf, placeOf, blockOf, blockAnswer}
+use Rattle.rooms.specs.Rooms.{between}
+use Rattle.sheet.specs.Sheet.{TagKind, old, tagAt, lengthAt, offsetAt, rowsListed, rowsOk, isSheet}
+use Rattle.sheet.specs.Block.{findRow, findIn, Part, ofService, ofFactory, firstOf, partOf, partBytes, placeOf, blockOf, blockAnswer}
+use Rattle.sheet.proofs.Tags.{allowed-short}
 use Rattle.sheet.proofs.Rows.{first-right, reach, contents}
 
 -- ---- the search; i of n rows are passed, and searching the rest is searching all
@@ -31,8 +33,13 @@ module _ (s : List ℕ) (tag n i at : ℕ) (inv : findRow (n - i) s at tag ≡ f
   unfolding findRow
   no-row h = let z : 0 ≡ n - i = omega arith in ap (λ (k : ℕ). findRow k s at tag) z ∙ inv
 
-pub find-start : (n : ℕ) (s : List ℕ) (tag : ℕ) → n ≡ getD s 0 0 → findRow (n - 0) s 1 tag ≡ findIn s tag
-find-start n s tag e = let z : n - 0 ≡ getD s 0 0 = omega arith in ap (λ (k : ℕ). findRow k s 1 tag) z
+-- a sheet's first byte is the number of its rows
+pub first-is : (s : List ℕ) → isSheet s ≡ true → getD s 0 0 ≡ rowsListed s
+unfolding old
+first-is s ok = omega (arith, contents old s ok .marked)
+
+pub find-start : (n : ℕ) (s : List ℕ) (tag : ℕ) → n ≡ rowsListed s → findRow (n - 0) s 1 tag ≡ findIn s tag
+find-start n s tag e = let z : n - 0 ≡ rowsListed s = omega arith in ap (λ (k : ℕ). findRow k s 1 tag) z
 
 -- ---- what is found lies in the sheet and has at most 32 bytes
 
@@ -41,29 +48,29 @@ pub record Inside (s : List ℕ) (a e : ℕ) : Type 0 where
   pub ends : e ≤ length s
   pub small : e ≤ a + 32
 
-module _ (k : ℕ) (s : List ℕ) (at low end tag a e : ℕ) (ok : rowsOk (suc k) s at low end ≡ true) (f : findRow (suc k) s at tag ≡ At a e) where
+module _ (k : ℕ) (s : List ℕ) (at low end tag a e : ℕ) (ok : rowsOk (old .kinds) (suc k) s at low end ≡ true) (f : findRow (suc k) s at tag ≡ At a e) where
   abbrev Rest : Type 0
-  Rest = rowsOk k s (at + 4) (tagAt s at + 1) (end + lengthAt s at) ≡ true → findRow k s (at + 4) tag ≡ At a e → Inside s a e
+  Rest = rowsOk (old .kinds) k s (at + 4) (tagAt s at + 1) (end + lengthAt s at) ≡ true → findRow k s (at + 4) tag ≡ At a e → Inside s a e
 
   inside-row : Rest → (b : Bool) → eqb (tagAt s at) tag ≡ b → Inside s a e
   unfolding findRow
   inside-row rest true q =
-      let r = first-right k s at low end ok in
+      let r = first-right (old .kinds) k s at low end ok in
       let f′ : At (offsetAt s at) (offsetAt s at + lengthAt s at) ≡ At a e = rw q at f in
       let ea : offsetAt s at ≡ a = cc in
       let ee : offsetAt s at + lengthAt s at ≡ e = cc in
-      let end-in : end + lengthAt s at ≤ length s = reach k s (at + 4) (tagAt s at + 1) (end + lengthAt s at) (r .1) in
-      record { rises = omega arith; ends = omega (arith, r .0 .starts); small = omega (arith, r .0 .short) }
-  inside-row rest false q = rest (first-right k s at low end ok .1) (rw q at f)
+      let end-in : end + lengthAt s at ≤ length s = reach (old .kinds) k s (at + 4) (tagAt s at + 1) (end + lengthAt s at) (r .1) in
+      record { rises = omega arith; ends = omega (arith, r .0 .starts); small = omega (arith, r .0 .starts, allowed-short (tagAt s at) (lengthAt s at) (r .0 .allowed)) }
+  inside-row rest false q = rest (first-right (old .kinds) k s at low end ok .1) (rw q at f)
 
-inside : (k : ℕ) (s : List ℕ) (at low end tag a e : ℕ) → rowsOk k s at low end ≡ true → findRow k s at tag ≡ At a e → Inside s a e
+inside : (k : ℕ) (s : List ℕ) (at low end tag a e : ℕ) → rowsOk (old .kinds) k s at low end ≡ true → findRow k s at tag ≡ At a e → Inside s a e
 unfolding findRow
 inside zero s at low end tag a e ok f = let z : _≡_ {A = ℕ} 0 1 = cc in absurd (omega arith)
 inside (suc k) s at low end tag a e ok f =
     inside-row k s at low end tag a e ok f (λ o g. inside k s (at + 4) (tagAt s at + 1) (end + lengthAt s at) tag a e o g) (eqb (tagAt s at) tag) refl
 
 pub found-inside : (s : List ℕ) (tag a e : ℕ) → isSheet s ≡ true → findIn s tag ≡ At a e → Inside s a e
-found-inside s tag a e ok f = inside (getD s 0 0) s 1 32 (1 + 4 * getD s 0 0) tag a e (contents s ok .rows) f
+found-inside s tag a e ok f = inside (rowsListed s) s 1 0 (1 + 4 * rowsListed s) tag a e (contents old s ok .rows) f
 
 -- ---- which sheet a name comes from
 
@@ -91,7 +98,7 @@ module _ (s f : List ℕ) (tag : ℕ) where
     in-neither n m = decided ∙ rw (n, m)
 
   -- the part's bytes are the name's, and its place is told by the part
-  pub shown : (ps pf : ℕ × ℕ) (p : Part) → partOf s f tag ≡ p → (bytesOf p s f ≡ blockOf s f tag) × (placeOf p ps pf ≡ placeOf (partOf s f tag) ps pf)
+  pub shown : (ps pf : ℕ × ℕ) (p : Part) → partOf s f tag ≡ p → (partBytes p s f ≡ blockOf s f tag) × (placeOf p ps pf ≡ placeOf (partOf s f tag) ps pf)
   unfolding blockOf
   shown ps pf p e = (rw e, rw e)
 
@@ -105,7 +112,7 @@ part-short : (s : List ℕ) (a e : ℕ) → Inside s a e → length (between s a
 part-short s a e i = simp length-take (omega (arith, i .small))
 
 module _ (s f : List ℕ) (tag : ℕ) where
-  by-part : (p : Part) → partOf s f tag ≡ p → length (bytesOf p s f) ≤ 32 → length (blockOf s f tag) ≤ 32
+  by-part : (p : Part) → partOf s f tag ≡ p → length (partBytes p s f) ≤ 32 → length (blockOf s f tag) ≤ 32
   by-part p e h = rw (shown s f tag (0, 0) (0, 0) p e .0) at h
 
   short-name : (b c : Bool) (x y : Found) → isSheet s ≡ b → isSheet f ≡ c → findIn s tag ≡ x → findIn f tag ≡ y → length (blockOf s f tag) ≤ 32

@@ -1,13 +1,12 @@
 -- Which part of which sheet is shown as a block name. Definitions: assumes nothing.
 use mathlib.Core.Bool.{Bool, cond, _&&_}
 use mathlib.Core.List.{List}
-use mathlib.Core.Option.{Option, none, some}
-use Prim.Native.Nat.{ℕ, zero, suc, _+_, _-_}
+use Prim.Native.Nat.{ℕ, zero, suc, _+_}
 use lib.Dec.{eqb}
-use lib.ListN.{getD, take, drop}
 use Rattle.sheet.specs.declared.Found.{Found}
 use Rattle.sheet.specs.declared.Found.the-variants.{At, Nothing}
-use Rattle.sheet.specs.Sheet.{tagAt, lengthAt, offsetAt, isSheet}
+use Rattle.rooms.specs.Rooms.{between}
+use Rattle.sheet.specs.Sheet.{tagAt, lengthAt, offsetAt, rowsListed, isSheet}
 
 -- where the body of a tag lies, from its first byte to past its last, by the first of n rows from byte `at` on that has the tag
 unfoldable pub findRow : ℕ → List ℕ → ℕ → ℕ → Found
@@ -16,23 +15,11 @@ findRow (suc n) s at tag = cond (eqb (tagAt s at) tag) (At (offsetAt s at) (offs
 
 -- the same, by the rows of a sheet
 abbrev pub findIn : List ℕ → ℕ → Found
-findIn s tag = findRow (getD s 0 0) s 1 tag
+findIn s tag = findRow (rowsListed s) s 1 tag
 
 -- the same of any bytes: what is no sheet lists nothing
 unfoldable pub listedIn : List ℕ → ℕ → Found
 listedIn s tag = cond (isSheet s) (findIn s tag) Nothing
-
--- the bytes of s from a up to e
-abbrev pub between : List ℕ → ℕ → ℕ → List ℕ
-between s a e = take (e - a) (drop a s)
-
--- what a sheet lists under a tag: a body or none
-abbrev pub foundIn : Found → List ℕ → Option (List ℕ)
-foundIn (At a e) s = some (between s a e)
-foundIn Nothing s = none
-
-unfoldable pub bodyIn : List ℕ → ℕ → Option (List ℕ)
-bodyIn s tag = foundIn (findIn s tag) s
 
 -- a part, from its first byte to past its last, of the service sheet or of the factory sheet
 pub data Part : Type 0 where
@@ -53,9 +40,9 @@ unfoldable pub partOf : List ℕ → List ℕ → ℕ → Part
 partOf service factory tag = cond (goodSheets service factory) (firstOf (findIn service tag) (findIn factory tag)) (ofFactory 0 0)
 
 -- a part's bytes
-abbrev pub bytesOf : Part → List ℕ → List ℕ → List ℕ
-bytesOf (ofService a e) service factory = between service a e
-bytesOf (ofFactory a e) service factory = between factory a e
+abbrev pub partBytes : Part → List ℕ → List ℕ → List ℕ
+partBytes (ofService a e) service factory = between service a e
+partBytes (ofFactory a e) service factory = between factory a e
 
 -- the place in memory where a part starts, from those of the two sheets (a block of memory, and a byte in it)
 abbrev pub placeOf : Part → ℕ × ℕ → ℕ × ℕ → ℕ × ℕ
@@ -64,7 +51,7 @@ placeOf (ofFactory a e) service factory = (factory .0, a + factory .1)
 
 -- the block name
 unfoldable pub blockOf : List ℕ → List ℕ → ℕ → List ℕ
-blockOf service factory tag = bytesOf (partOf service factory tag) service factory
+blockOf service factory tag = partBytes (partOf service factory tag) service factory
 
 -- the answer number: 9 where a sheet is bad
 unfoldable pub blockAnswer : List ℕ → List ℕ → ℕ

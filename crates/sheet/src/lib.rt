@@ -4,7 +4,7 @@ ghost use mathlib.Core.Bool.{true};
 ghost use Prim.Native.Nat.{_+_, _*_, _<_, _≤_};
 ghost use lib.ListN.{length};
 ghost use denote.Ref.{ptr};
-ghost use Rattle.sheet.specs.Sheet.{rowOk, isSheet};
+ghost use Rattle.sheet.specs.Sheet.{old, allows, rowOk, isSheet};
 ghost use Rattle.sheet.specs.Block.{listedIn, findIn, partOf, placeOf, blockOf, blockAnswer};
 
 // Where the body of a tag lies in a sheet: from its first byte to past its last.
@@ -13,31 +13,29 @@ pub enum Found {
     Nothing,
 }
 
-fn wide(x: u8) -> usize
-    ensures { λ r. ⌜ (r ≡ x) × (r < 256) ⌝ }
-{
-    x as usize
-}
-
 // A row's offset: two bytes, low first.
 fn offset(low: u8, high: u8) -> usize
     ensures { λ r. ⌜ (r ≡ low + 256 * high) × (r < 65536) ⌝ }
 {
-    wide(low) + 256 * wide(high)
+    rooms::wide(low) + 256 * rooms::wide(high)
+}
+
+// Whether a tag may be listed with a body of some length.
+fn allowed(tag: u8, length: u8) -> bool
+    ensures { λ r. ⌜ r ≡ allows (old .kinds) tag length ⌝ }
+{
+    (0x20 <= tag) & (tag <= 0x23) & (length <= 32)
 }
 
 // Whether the row that starts at `at` may stand where the tags from `low` on are free and the body before it ends at `end`.
 fn row_ok(s: &[u8], at: usize, low: usize, end: usize) -> bool
     requires { ⌜ at + 4 ≤ length (now s) ⌝ }
-    ensures { λ r. ⌜ r ≡ rowOk (now (s .entry)) at low end ⌝ }
+    ensures { λ r. ⌜ r ≡ rowOk (old .kinds) (now (s .entry)) at low end ⌝ }
 {
-    if wide(s[at]) < low {
+    if rooms::wide(s[at]) < low {
         return false;
     }
-    if 0x23 < s[at] {
-        return false;
-    }
-    if 32 < s[at + 1] {
+    if !allowed(s[at], s[at + 1]) {
         return false;
     }
     offset(s[at + 2], s[at + 3]) == end
@@ -51,7 +49,7 @@ pub fn is_sheet(bytes: &[u8]) -> bool
     if size == 0 {
         return false;
     }
-    let n = wide(bytes[0]);
+    let n = rooms::wide(bytes[0]);
     if 4 < n {
         return false;
     }
@@ -61,14 +59,14 @@ pub fn is_sheet(bytes: &[u8]) -> bool
     }
     let mut i = 0;
     let mut at: usize = 1;
-    let mut low: usize = 0x20;
+    let mut low: usize = 0;
     let mut end = first;
     while i < n {
         if !row_ok(bytes, at, low, end) {
             return false;
         }
-        low = wide(bytes[at]) + 1;
-        end += wide(bytes[at + 1]);
+        low = rooms::wide(bytes[at]) + 1;
+        end += rooms::wide(bytes[at + 1]);
         at += 4;
         i += 1;
     }
@@ -80,13 +78,13 @@ fn find(sheet: &[u8], tag: u8) -> Found
     requires { ⌜ isSheet (now sheet) ≡ true ⌝ }
     ensures { λ r. ⌜ r ≡ findIn (now (sheet .entry)) tag ⌝ }
 {
-    let n = wide(sheet[0]);
+    let n = rooms::wide(sheet[0]);
     let mut i = 0;
     let mut at: usize = 1;
     while i < n {
         if sheet[at] == tag {
             let start = offset(sheet[at + 2], sheet[at + 3]);
-            return Found::At(start, start + wide(sheet[at + 1]));
+            return Found::At(start, start + rooms::wide(sheet[at + 1]));
         }
         at += 4;
         i += 1;

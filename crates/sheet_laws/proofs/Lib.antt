@@ -1,3 +1,4 @@
-pub mod ReadBack
-pub mod Form
+pub mod Entries
+pub mod Forms
+pub mod Choices
 pub mod Named

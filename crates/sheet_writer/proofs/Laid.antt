@@ -1,120 +1,210 @@
--- What the writer lays down: rows and bodies one after the other are those of the choice. Assumes nothing.
+-- What the writer lays down: entries one after another are those of the choice, and lie as in its sheet. Assumes nothing.
 use mathlib.Core.Path.{_≡_, refl, sym, ap, _∙_}
-use mathlib.Core.Bool.{Bool, true, false, cond, _&&_}
-use mathlib.Core.List.{List, [], _∷_, _++_}
-use mathlib.Core.Option.{Option}
-use Prim.Native.Nat.{ℕ, suc, _+_, _*_, _≤_, _<_}
+use mathlib.Core.Bool.{Bool, true, false, cond, not, _&&_, _||_, and-eq-true-iff, and-assoc, and-true}
+use mathlib.Core.List.{List, [], _∷_, _++_, append-assoc, append-nil}
+use Prim.Native.Nat.{ℕ, suc, _+_, _*_, _/_, _%_, _≤_, _<_}
 use native.Mathlib.Nat.{add-zero}
 use native.Mathlib.Omega.{arith}
-use lib.ListN.{length, set, drop, length-append}
-use lib.Seq.{sets, sets-eq}
-use borrow.Author.Tests.{le-leb, lt-leb}
-use Rattle.sheet.specs.Sheet.{Entry, rowsOf, contentsOf, bodiesOf, Choice, listed, sheetOf, shortBody, short}
-use Rattle.sheet.proofs.Rows.{both}
-use Rattle.sheet.proofs.Lengths.{rows-length, sheet-bound}
-use Rattle.sheet_writer.specs.declared.Wrote.{Wrote}
-use Rattle.sheet_writer.specs.Writing.{chosen, choice, written, wroteOf, roomOf}
-use Rattle.sheet_writer.proofs.Stores.{then}
+use lib.Dec.{leb}
+use lib.ListN.{length, set, length-append, length-set}
+use lib.Seq.{sets, set-comm, length-sets}
+use borrow.Author.Tests.{leb-true}
+use Rattle.rooms.specs.Rooms.{wrote}
+use Rattle.rooms.proofs.Rooms.{sets-append, then, front}
+use Rattle.sheet.specs.Sheet.{Entry, rowsOf, contentsOf, bodiesOf, old, sheetOf}
+use Rattle.sheet.proofs.Lengths.{rows-length}
+use Rattle.sheet_writer.specs.declared.Cursor.{Cursor}
+use Rattle.sheet_writer.specs.Writing.{entryIf, choice, short, writable, sheetWrote, sheetRoom, Owed}
+use Rattle.sheet_writer.specs.Laying.{Place, laid, past, Put}
 
--- four stores are a row
-pub row-laid : (l : List ℕ) (at a b c d : ℕ) → set (set (set (set l at a) (at + 1) b) (at + 2) c) (at + 3) d ≡ sets l at (a ∷ b ∷ c ∷ d ∷ [])
+-- ---- entries and then others
+
+bodies-append : (es ds : List Entry) → bodiesOf (es ++ ds) ≡ bodiesOf es ++ bodiesOf ds
+bodies-append [] ds = refl
+bodies-append (e ∷ es) ds = rw (bodies-append es ds) (sym (append-assoc (e .body) (bodiesOf es) (bodiesOf ds)))
+
+rows-append : (es ds : List Entry) (end : ℕ) → rowsOf end (es ++ ds) ≡ rowsOf end es ++ rowsOf (end + length (bodiesOf es)) ds
+rows-append [] ds end = rw add-zero
+rows-append (e ∷ es) ds end =
+    let n : end + length (bodiesOf (e ∷ es)) ≡ end + length (e .body) + length (bodiesOf es) = omega (arith, length-append (e .body) (bodiesOf es)) in
+    rw (n, rows-append es ds (end + length (e .body)))
+
+short-append : (es ds : List Entry) → short (es ++ ds) ≡ short es && short ds
+short-append [] ds = refl
+short-append (e ∷ es) ds = rw (short-append es ds) (sym (and-assoc (leb (length (e .body)) 32) (short es) (short ds)))
+
+-- ---- stores below others, before or after them
+
+set-under : (l : List ℕ) (i j v : ℕ) (ws : List ℕ) → i < j → set (sets l j ws) i v ≡ sets (set l i v) j ws
+set-under l i j v [] h = refl
+set-under l i j w (x ∷ ws) h = set-under (set l j x) i (suc j) w ws (omega arith) ∙ ap (λ (m : List ℕ). sets m (suc j) ws) (set-comm l j i x w (λ e. omega arith))
+
+sets-under : (l : List ℕ) (i j : ℕ) (vs ws : List ℕ) → i + length vs ≤ j → sets (sets l j ws) i vs ≡ sets (sets l i vs) j ws
+sets-under l i j [] ws h = refl
+sets-under l i j (v ∷ vs) ws h = rw (set-under l i j v ws (omega arith)) (sets-under (set l i v) (suc i) j vs ws (omega arith))
+
+-- ---- one entry, or none
+
+none-laid : (at : Cursor) → at ≡ past at []
+none-laid at = simp add-zero
+
+row-laid : (l : List ℕ) (at a b c d : ℕ) → set (set (set (set l at a) (at + 1) b) (at + 2) c) (at + 3) d ≡ sets l at (a ∷ b ∷ c ∷ d ∷ [])
 row-laid l at a b c d =
     let z₁ : at + 1 ≡ suc at = omega arith in
     let z₂ : at + 2 ≡ suc (suc at) = omega arith in
     let z₃ : at + 3 ≡ suc (suc (suc at)) = omega arith in
     rw (z₁, z₂, z₃)
 
--- ---- a choice, body by body: `has` and `b` stand for the first one
+module _ (room : List ℕ) (at : Cursor) (tag : ℕ) (body : List ℕ) where
+  pub absent : (has : Bool) → has ≡ false → Put room at (entryIf tag has body) room at
+  absent has e = (rw e (none-laid at), rw e)
 
-pub one-listed : (tag : ℕ) (has : Bool) (b : List ℕ) (bs : Choice) → length (listed tag (chosen has b ∷ bs)) ≡ cond has 1 0 + length (listed (tag + 1) bs)
-one-listed tag true b bs = omega arith
-one-listed tag false b bs = omega arith
+  -- four stores are a row
+  pub put : {m : List ℕ} (has : Bool) → has ≡ true
+      → m ≡ sets (set (set (set (set room (at .row) tag) (at .row + 1) (length body)) (at .row + 2) (at .end % 256)) (at .row + 3) (at .end / 256)) (at .end) body
+      → Put room at (entryIf tag has body) m (record { row = at .row + 4; end = at .end + length body })
+  put has e f =
+      (rw (e, append-nil body), rw (e, append-nil body) (f ∙ ap (λ (l : List ℕ). sets l (at .end) body) (row-laid room (at .row) tag (length body) (at .end % 256) (at .end / 256))))
 
-one-row : (tag : ℕ) (has : Bool) (b : List ℕ) (bs : Choice) (end : ℕ)
-    → rowsOf end (listed tag (chosen has b ∷ bs)) ≡ rowsOf end (listed tag (chosen has b ∷ [])) ++ rowsOf (end + length (cond has b [])) (listed (tag + 1) bs)
-one-row tag true b bs end = refl
-one-row tag false b bs end = rw add-zero
+  pub one-place : (has : Bool) → has ≡ true → Place room at (entryIf tag has body) → (at .row + 4 ≤ at .end) × (at .end + length body ≤ length room) × (at .end + length body < 65536) × (length body ≤ 32)
+  one-place has e p =
+      let q : Place room at (record { tag = tag; body = body } ∷ []) = rw e at p in
+      let n : length (body ++ []) ≡ length body = ap length (append-nil body) in
+      (omega (arith, q .rows), omega (arith, q .bodies, n), omega (arith, q .offsets, n), leb-true (length body) 32 (and-eq-true-iff (leb (length body) 32) true .0 (q .small) .0))
 
-row-length : (tag : ℕ) (has : Bool) (b : List ℕ) (end : ℕ) → length (rowsOf end (listed tag (chosen has b ∷ []))) ≡ cond has 4 0
-row-length tag true b end = refl
-row-length tag false b end = refl
+-- ---- one after another
 
-one-body : (tag : ℕ) (has : Bool) (b : List ℕ) (bs : Choice) → bodiesOf (listed tag (chosen has b ∷ bs)) ≡ cond has b [] ++ bodiesOf (listed (tag + 1) bs)
-one-body tag true b bs = refl
-one-body tag false b bs = refl
+module _ (room : List ℕ) (at : Cursor) (es ds : List Entry) (p : Place room at (es ++ ds)) where
+  many : length (es ++ ds) ≡ length es + length ds
+  many = length-append es ds
 
-module _ (tag : ℕ) (has : Bool) (b : List ℕ) (bs : Choice) (l : List ℕ) {m : List ℕ} where
-  -- its row, and then the others'
-  pub next-row : (row end : ℕ) {row′ end′ : ℕ} → m ≡ sets l row (rowsOf end (listed tag (chosen has b ∷ []))) → row′ ≡ row + cond has 4 0 → end′ ≡ end + length (cond has b [])
-      → sets m row′ (rowsOf end′ (listed (tag + 1) bs)) ≡ sets l row (rowsOf end (listed tag (chosen has b ∷ bs)))
-  next-row row end {row′} e r f =
-      let n : row′ ≡ row + length (rowsOf end (listed tag (chosen has b ∷ []))) = r ∙ ap (λ (k : ℕ). row + k) (sym (row-length tag has b end)) in
-      rw (f, one-row tag has b bs end) (then l row row′ (rowsOf end (listed tag (chosen has b ∷ []))) (rowsOf (end + length (cond has b [])) (listed (tag + 1) bs)) e n)
+  bytes : length (bodiesOf (es ++ ds)) ≡ length (bodiesOf es) + length (bodiesOf ds)
+  bytes = ap length (bodies-append es ds) ∙ length-append (bodiesOf es) (bodiesOf ds)
 
-  -- its body, and then the others'
-  pub next-body : (at : ℕ) {at′ : ℕ} → m ≡ sets l at (cond has b []) → at′ ≡ at + length (cond has b []) → sets m at′ (bodiesOf (listed (tag + 1) bs)) ≡ sets l at (bodiesOf (listed tag (chosen has b ∷ bs)))
-  next-body at {at′} e f = rw (one-body tag has b bs) (then l at at′ (cond has b []) (bodiesOf (listed (tag + 1) bs)) e f)
+  smalls : (short es ≡ true) × (short ds ≡ true)
+  smalls = and-eq-true-iff (short es) (short ds) .0 (sym (short-append es ds) ∙ p .small)
 
-pub next-end : (tag : ℕ) (has : Bool) (b : List ℕ) (bs : Choice) (at : ℕ) {at′ : ℕ} → at′ ≡ at + length (cond has b [])
-    → at′ + length (bodiesOf (listed (tag + 1) bs)) ≡ at + length (bodiesOf (listed tag (chosen has b ∷ bs)))
-next-end tag has b bs at f = rw (one-body tag has b bs) (omega (arith, length-append (cond has b []) (bodiesOf (listed (tag + 1) bs))))
+  -- place for the first
+  pub place-first : Place room at es
+  place-first = record { rows = omega (arith, p .rows, many); bodies = omega (arith, p .bodies, bytes); offsets = omega (arith, p .offsets, bytes); small = smalls .0 }
 
--- ---- refusals
+  -- and for the others past them
+  pub place-past : {m : List ℕ} {next : Cursor} → Put room at es m next → Place m next ds
+  place-past one =
+      let n : length (laid room at es) ≡ length room = length-sets (sets room (at .row) (rowsOf (at .end) es)) (at .end) (bodiesOf es) ∙ length-sets room (at .row) (rowsOf (at .end) es) in
+      rw (one .0, one .1) (record { rows = omega (arith, p .rows, many); bodies = omega (arith, p .bodies, bytes, n); offsets = omega (arith, p .offsets, bytes); small = smalls .1 })
 
--- each of the four bodies is short
-pub record Shorts (has20 : Bool) (body20 : List ℕ) (has21 : Bool) (body21 : List ℕ) (has22 : Bool) (body22 : List ℕ) (has23 : Bool) (body23 : List ℕ) : Type 0 where
-  pub short20 : shortBody (chosen has20 body20) ≡ true
-  pub short21 : shortBody (chosen has21 body21) ≡ true
-  pub short22 : shortBody (chosen has22 body22) ≡ true
-  pub short23 : shortBody (chosen has23 body23) ≡ true
+  laid-append : laid (laid room at es) (past at es) ds ≡ laid room at (es ++ ds)
+  laid-append =
+      let r : List ℕ = rowsOf (at .end) es in
+      let q : List ℕ = rowsOf (at .end + length (bodiesOf es)) ds in
+      let row : at .row + 4 * length es ≡ at .row + length r = omega (arith, rows-length es (at .end)) in
+      let under : at .row + 4 * length es + length q ≤ at .end = omega (arith, p .rows, many, rows-length ds (at .end + length (bodiesOf es))) in
+      ap (λ (m : List ℕ). sets m (at .end + length (bodiesOf es)) (bodiesOf ds)) (sets-under (sets room (at .row) r) (at .row + 4 * length es) (at .end) q (bodiesOf es) under)
+      ∙ sets-append (sets (sets room (at .row) r) (at .row + 4 * length es) q) (at .end) (bodiesOf es) (bodiesOf ds)
+      ∙ ap (λ (m : List ℕ). sets m (at .end) (bodiesOf es ++ bodiesOf ds)) (then room (at .row) (at .row + 4 * length es) r q refl row)
+      ∙ rw (bodies-append es ds, rows-append es ds (at .end))
 
-pub shorts : (h : Bool) (b : List ℕ) (i : Bool) (c : List ℕ) (j : Bool) (d : List ℕ) (k : Bool) (e : List ℕ) → short (choice h b i c j d k e) ≡ true → Shorts h b i c j d k e
-shorts h b i c j d k e q =
-    let p = both (shortBody (chosen h b)) (short (chosen i c ∷ chosen j d ∷ chosen k e ∷ [])) q in
-    let r = both (shortBody (chosen i c)) (short (chosen j d ∷ chosen k e ∷ [])) (p .1) in
-    let s = both (shortBody (chosen j d)) (short (chosen k e ∷ [])) (r .1) in
-    record { short20 = p .0; short21 = r .0; short22 = s .0; short23 = both (shortBody (chosen k e)) true (s .1) .0 }
+  past-append : past (past at es) ds ≡ past at (es ++ ds)
+  past-append =
+      let row : at .row + 4 * length es + 4 * length ds ≡ at .row + 4 * length (es ++ ds) = omega (arith, many) in
+      let end : at .end + length (bodiesOf es) + length (bodiesOf ds) ≡ at .end + length (bodiesOf (es ++ ds)) = omega (arith, bytes) in
+      rw (row, end)
 
-pub two-and-two : (a b c d : Bool) → (a && b) && (c && d) ≡ a && (b && (c && (d && true)))
-two-and-two true true true true = refl
-two-and-two true true true false = refl
-two-and-two true true false d = refl
-two-and-two true false c d = refl
-two-and-two false b c d = refl
+  -- the first and then the others are all of them
+  pub joined : {m m′ : List ℕ} {next last : Cursor} → Put room at es m next → Put m next ds m′ last → Put room at (es ++ ds) m′ last
+  joined {m} {m′} {next} {last} one others =
+      (others .0 ∙ ap (λ (c : Cursor). past c ds) (one .0) ∙ past-append, others .1 ∙ rw (one .0, one .1) laid-append)
 
-pub four-short : (o p q r : Option (List ℕ)) {a b c d : Bool} → a ≡ shortBody o → b ≡ shortBody p → c ≡ shortBody q → d ≡ shortBody r → (a && b) && (c && d) ≡ short (o ∷ p ∷ q ∷ r ∷ [])
-four-short o p q r ea eb ec ed = rw (ea, eb, ec, ed) (two-and-two (shortBody o) (shortBody p) (shortBody q) (shortBody r))
+-- ---- the choice
 
-module _ (bs : Choice) (room : List ℕ) where
-  abbrev Refused : Type 0
-  Refused = (_≡_ {A = Wrote} (record { answer = 12; length = 0 }) (wroteOf bs room)) × (room ≡ roomOf bs room)
+one-short : (tag : ℕ) (has : Bool) (body : List ℕ) → short (entryIf tag has body) ≡ not has || leb (length body) 32
+one-short tag true body = and-true (leb (length body) 32)
+one-short tag false body = refl
 
-  refused : written bs room ≡ false → Refused
-  unfolding wroteOf roomOf
-  refused e = (rw e, rw e)
+one-count : (tag : ℕ) (has : Bool) (body : List ℕ) → length (entryIf tag has body) ≡ cond has 1 0
+one-count tag true body = refl
+one-count tag false body = refl
 
-  pub long-body : short bs ≡ false → Refused
-  unfolding written
-  long-body e = refused (rw e)
+at-most-one : (has : Bool) → cond has 1 0 ≤ 1
+at-most-one true = omega arith
+at-most-one false = omega arith
 
-  pub small-room : short bs ≡ true → length room < 145 → Refused
-  unfolding written
-  small-room e h = refused (rw (e, lt-leb _ _ h))
+module _ (h : Bool) (b : List ℕ) (i : Bool) (c : List ℕ) (j : Bool) (d : List ℕ) (k : Bool) (e : List ℕ) where
+  abbrev es : List Entry
+  es = choice h b i c j d k e
+
+  pub choice-short : short es ≡ (not h || leb (length b) 32) && (not i || leb (length c) 32) && ((not j || leb (length d) 32) && (not k || leb (length e) 32))
+  choice-short =
+      rw (short-append (entryIf 0x20 h b) (entryIf 0x21 i c ++ (entryIf 0x22 j d ++ entryIf 0x23 k e)), short-append (entryIf 0x21 i c) (entryIf 0x22 j d ++ entryIf 0x23 k e), short-append (entryIf 0x22 j d) (entryIf 0x23 k e), one-short 0x20 h b, one-short 0x21 i c, one-short 0x22 j d, one-short 0x23 k e)
+      (sym (and-assoc (not h || leb (length b) 32) (not i || leb (length c) 32) ((not j || leb (length d) 32) && (not k || leb (length e) 32))))
+
+  pub choice-count : length es ≡ cond h 1 0 + cond i 1 0 + cond j 1 0 + cond k 1 0
+  choice-count =
+      omega (
+        arith,
+        length-append (entryIf 0x20 h b) (entryIf 0x21 i c ++ (entryIf 0x22 j d ++ entryIf 0x23 k e)),
+        length-append (entryIf 0x21 i c) (entryIf 0x22 j d ++ entryIf 0x23 k e),
+        length-append (entryIf 0x22 j d) (entryIf 0x23 k e),
+        one-count 0x20 h b,
+        one-count 0x21 i c,
+        one-count 0x22 j d,
+        one-count 0x23 k e,
+      )
+
+  pub choice-few : length es ≤ 4
+  choice-few = omega (arith, choice-count, at-most-one h, at-most-one i, at-most-one j, at-most-one k)
 
 -- ---- the sheet
 
--- contents, then bodies right after them: the sheet is written
-pub sheet-written : (bs : Choice) (room : List ℕ) {first end : ℕ} {m m′ : List ℕ} → short bs ≡ true → 145 ≤ length room → length bs ≡ 4
-    → first ≡ 1 + 4 * length (listed 32 bs) → m ≡ sets room 0 (contentsOf (length (listed 32 bs)) (listed 32 bs))
-    → end ≡ first + length (bodiesOf (listed 32 bs)) → m′ ≡ sets m first (bodiesOf (listed 32 bs))
-    → (_≡_ {A = Wrote} (record { answer = 0; length = end }) (wroteOf bs room)) × (m′ ≡ roomOf bs room)
-unfolding wroteOf roomOf written sheetOf
-sheet-written bs room {first} {end} {m} {m′} s h four f e g e′ =
-    let es : List Entry = listed 32 bs in
-    let C : List ℕ = contentsOf (length es) es in
-    let S : List ℕ = C ++ bodiesOf es in
-    let n : first ≡ 0 + length C = omega (arith, rows-length es (1 + 4 * length es)) in
-    let l : end ≡ length S = omega (arith, length-append C (bodiesOf es)) in
-    let fits : 0 + length S ≤ length room = omega (arith, sheet-bound bs s) in
-    let z : 0 + length S ≡ length S = omega arith in
-    (rw (s, le-leb _ _ h, l), rw (s, le-leb _ _ h) (e′ ∙ then room 0 first C (bodiesOf es) e n ∙ sets-eq S room 0 fits ∙ ap (λ (k : ℕ). S ++ drop k room) z))
+bodies-most : (es : List Entry) → short es ≡ true → length (bodiesOf es) ≤ 32 * length es
+bodies-most [] h = omega arith
+bodies-most (e ∷ es) h =
+    let s = and-eq-true-iff (leb (length (e .body)) 32) (short es) .0 h in
+    omega (arith, leb-true (length (e .body)) 32 (s .0), bodies-most es (s .1), length-append (e .body) (bodiesOf es))
+
+sheet-length : (es : List Entry) → length (sheetOf old es) ≡ 1 + 4 * length es + length (bodiesOf es)
+unfolding sheetOf
+sheet-length es = omega (arith, length-append (contentsOf old es) (bodiesOf es), rows-length es (1 + 4 * length es))
+
+-- the sheet of a choice has at most 145 bytes
+sheet-most : (es : List Entry) → length es ≤ 4 → short es ≡ true → length (sheetOf old es) ≤ 145
+sheet-most es few h = omega (arith, sheet-length es, bodies-most es h)
+
+module _ (es : List Entry) (room : List ℕ) where
+  pub refused : writable es room ≡ false → Owed es room (wrote 12 0) room
+  unfolding sheetWrote sheetRoom
+  refused e = (rw e, rw e)
+
+  pub facts : writable es room ≡ true → (short es ≡ true) × (145 ≤ length room)
+  unfolding writable
+  facts ok = let a = and-eq-true-iff (short es) (leb 145 (length room)) .0 ok in (a .0, leb-true 145 (length room) (a .1))
+
+  module _ (few : length es ≤ 4) (ok : writable es room ≡ true) (n : ℕ) (count : n ≡ length es) where
+    abbrev start : Cursor
+    start = record { row = 1; end = 1 + 4 * n }
+
+    pub place-all : Place (set room 0 n) start es
+    place-all =
+        let l : length (set room 0 n) ≡ length room = simp length-set in
+        let b = bodies-most es (facts ok .0) in
+        record { rows = omega arith; bodies = omega (arith, facts ok .1); offsets = omega arith; small = facts ok .0 }
+
+    -- byte n, and then the rows and the bodies of all
+    pub written : {m : List ℕ} {last : Cursor} → Put (set room 0 n) start es m last → Owed es room (wrote 0 (last .end)) m
+    unfolding sheetWrote sheetRoom sheetOf old
+    written {m} {last} all =
+        let C : List ℕ = contentsOf old es in
+        let f : 1 + 4 * n ≡ 0 + length C = omega (arith, rows-length es (1 + 4 * length es)) in
+        let l : last .end ≡ length (sheetOf old es) = ap (λ (a : Cursor). a .end) (all .0) ∙ omega (arith, sheet-length es) in
+        let s : sets (set room 0 n) 1 (rowsOf (1 + 4 * n) es) ≡ sets room 0 C = let z : 0 + length es ≡ length es = omega arith in rw (count, z) in
+        (rw (ok, l), rw ok (all .1 ∙ then room 0 (1 + 4 * n) C (bodiesOf es) s f ∙ front (sheetOf old es) room (omega (arith, sheet-most es few (facts ok .0), facts ok .1))))
+
+-- what writing a choice answers: a length of at most 145
+pub wrote-most : (h : Bool) (b : List ℕ) (i : Bool) (c : List ℕ) (j : Bool) (d : List ℕ) (k : Bool) (e : List ℕ) (room : List ℕ) → sheetWrote (choice h b i c j d k e) room .length ≤ 145
+unfolding sheetWrote
+wrote-most h b i c j d k e room = by-test (writable (choice h b i c j d k e) room) refl
+  where
+    by-test : (t : Bool) → writable (choice h b i c j d k e) room ≡ t → cond t (wrote 0 (length (sheetOf old (choice h b i c j d k e)))) (wrote 12 0) .length ≤ 145
+    by-test true ok = sheet-most (choice h b i c j d k e) (choice-few h b i c j d k e) (facts (choice h b i c j d k e) room ok .0)
+    by-test false bad = omega arith

@@ -1,29 +1,40 @@
 -- What writing a sheet gives: answer, length and room. Definitions: assumes nothing.
-use mathlib.Core.Bool.{Bool, cond, _&&_}
+use mathlib.Core.Path.{_≡_}
+use mathlib.Core.Bool.{Bool, true, cond, _&&_}
 use mathlib.Core.List.{List, [], _∷_, _++_}
-use mathlib.Core.Option.{Option, none, some}
 use Prim.Native.Nat.{ℕ}
 use lib.Dec.{leb}
-use lib.ListN.{length, drop}
-use Rattle.sheet_writer.specs.declared.Wrote.{Wrote}
-use Rattle.sheet.specs.Sheet.{Choice, sheetOf, short}
+use lib.ListN.{length}
+use Rattle.rooms.specs.declared.Wrote.{Wrote}
+use Rattle.rooms.specs.Rooms.{placed, wrote}
+use Rattle.sheet.specs.Sheet.{Entry, old, sheetOf}
 
--- an absent body's bytes are ignored
-abbrev pub chosen : Bool → List ℕ → Option (List ℕ)
-chosen has body = cond has (some body) none
+-- the entry of a tag that gets a body, and none of one that doesn't: an absent body's bytes are ignored
+abbrev pub entryIf : ℕ → Bool → List ℕ → List Entry
+entryIf tag has body = cond has (record { tag = tag; body = body } ∷ []) []
 
--- the bodies for the tags 20, 21, 22 and 23
-abbrev pub choice : Bool → List ℕ → Bool → List ℕ → Bool → List ℕ → Bool → List ℕ → Choice
-choice has20 body20 has21 body21 has22 body22 has23 body23 = chosen has20 body20 ∷ chosen has21 body21 ∷ chosen has22 body22 ∷ chosen has23 body23 ∷ []
+-- the entries of a body or none for each of the tags 20, 21, 22 and 23
+abbrev pub choice : Bool → List ℕ → Bool → List ℕ → Bool → List ℕ → Bool → List ℕ → List Entry
+choice has20 body20 has21 body21 has22 body22 has23 body23 =
+    entryIf 0x20 has20 body20 ++ (entryIf 0x21 has21 body21 ++ (entryIf 0x22 has22 body22 ++ entryIf 0x23 has23 body23))
 
--- written, unless a body is over 32 bytes or the room under 145
-unfoldable pub written : Choice → List ℕ → Bool
-written bs room = short bs && leb 145 (length room)
+-- no body is over 32 bytes
+abbrev pub short : List Entry → Bool
+short [] = true
+short (e ∷ es) = leb (length (e .body)) 32 && short es
+
+-- they are written, unless a body is over 32 bytes or the room under 145
+unfoldable pub writable : List Entry → List ℕ → Bool
+writable es room = short es && leb 145 (length room)
 
 -- the answer 0 and the sheet's length; or 12, and 0
-unfoldable pub wroteOf : Choice → List ℕ → Wrote
-wroteOf bs room = cond (written bs room) (record { answer = 0; length = length (sheetOf bs) }) (record { answer = 12; length = 0 })
+unfoldable pub sheetWrote : List Entry → List ℕ → Wrote
+sheetWrote es room = cond (writable es room) (wrote 0 (length (sheetOf old es))) (wrote 12 0)
 
 -- the sheet at the front and the rest of the room as it was; or the room as it was
-unfoldable pub roomOf : Choice → List ℕ → List ℕ
-roomOf bs room = cond (written bs room) (sheetOf bs ++ drop (length (sheetOf bs)) room) room
+unfoldable pub sheetRoom : List Entry → List ℕ → List ℕ
+sheetRoom es room = cond (writable es room) (placed (sheetOf old es) room) room
+
+-- what writing entries into a room owes: what it answers, and what the room holds after it
+abbrev pub Owed : List Entry → List ℕ → Wrote → List ℕ → Type 0
+Owed es room answer after = (answer ≡ sheetWrote es room) × (after ≡ sheetRoom es room)

@@ -1,45 +1,41 @@
 -- Keys, blocks and rows: what is packed has room, and each case's number is the whole's.
 -- Assumes nothing.
-use mathlib.Core.Bool.{Bool, true, false, _&&_}
+use mathlib.Core.Bool.{true, false, _&&_, and-eq-true-iff}
 use mathlib.Core.List.{List}
 use mathlib.Core.Option.{Option, none, some}
 use mathlib.Core.Path.{_≡_, refl, sym, subst, _∙_}
-use Prim.Native.Nat.{ℕ, _+_, _*_, _≤_}
+use Prim.Native.Nat.{ℕ, _+_, _≤_}
 use native.Mathlib.Omega.{arith}
 use borrow.Author.Tests.{leb-true}
 use lib.Dec.{ltb, leb}
 use lib.ListN.{length}
-use Rattle.capture.proofs.Exact.{exactly, longest}
-use Rattle.capture.proofs.Steps.{Within, within}
-use Rattle.capture.specs.Capture.{isCapture, countIn, markIn, lengthIn}
+use Rattle.capture.proofs.Check.{longest}
+use Rattle.capture.specs.Capture.{isCapture, countIn, lengthIn}
 use Rattle.capture.specs.Walk.{hasRow, stepAt}
 use Rattle.capture.specs.declared.Step.{Step}
 use Rattle.capture.specs.declared.Step.the-variants.{Next, End, NotCapture}
 use Rattle.key.proofs.Keys.{key-given}
-use Rattle.key.proofs.Writing.{escape-length}
-use Rattle.key.specs.Key.{Parts, readKey, readOf, makerOf, deviceOf}
-use Rattle.sheet.proofs.Names.{Inside, found-inside}
+use Rattle.key.proofs.Form.{escape-length}
+use Rattle.key.specs.Key.{Parts, readKey, makerOf, deviceOf}
+use Rattle.sheet.proofs.Lengths.{at-most-145}
+use Rattle.sheet.proofs.Names.{found-inside}
 use Rattle.sheet.specs.Block.{Part, findIn, partOf, blockAnswer}
 use Rattle.sheet.specs.Sheet.{isSheet}
 use Rattle.sheet.specs.declared.Found.the-variants.{At}
-use Rattle.sheet_laws.proofs.Form.{at-most-145}
-use Rattle.snatchblock.proofs.Bounds.{both, chosen}
+use Rattle.snatchblock.proofs.Bounds.{chosen}
 use Rattle.snatchblock.specs.Packed.{blockNumber}
 
 -- ---- keys
 
--- what a reader shows of a key: its answer, and its parts, escaped
-pub read-most : (k : List ℕ)
-    → (readOf (readKey k) .answer ≤ 13) × ((length (makerOf (readKey k)) ≤ 64) × (length (deviceOf (readKey k)) ≤ 64))
+-- the parts that a reader shows of a key, escaped
+pub read-most : (k : List ℕ) → (length (makerOf (readKey k)) ≤ 64) × (length (deviceOf (readKey k)) ≤ 64)
 read-most k = go (readKey k) refl
   where
-    go : (o : Option Parts) → readKey k ≡ o → (readOf o .answer ≤ 13) × ((length (makerOf o) ≤ 64) × (length (deviceOf o) ≤ 64))
-    go none e = (omega arith, (omega arith, omega arith))
+    go : (o : Option Parts) → readKey k ≡ o → (length (makerOf o) ≤ 64) × (length (deviceOf o) ≤ 64)
+    go none e = (omega arith, omega arith)
     go (some p) e =
-        let f = key-given k p e .0 in (
-          omega arith,
-          (omega (arith, escape-length (p .maker), f .maker-fits), omega (arith, escape-length (p .device), f .device-fits)),
-        )
+        let f = key-given k p e .0 in
+        (omega (arith, escape-length (p .maker), f .maker-fits), omega (arith, escape-length (p .device), f .device-fits))
 
 -- ---- blocks
 
@@ -81,7 +77,7 @@ step-most s row place {t} {mark} {after} {next} e given = subst (λ (u : Step). 
     small =
         chosen (λ (u : Step). Small u place) (hasRow s row place)
         (λ h.
-        let b = both (isCapture s && ltb row (countIn s)) (leb (place + lengthIn s row) (length s)) h in
-        let c = both (isCapture s) (ltb row (countIn s)) (b .0) .0 in
-        (omega arith, omega (arith, leb-true (place + lengthIn s row) (length s) (b .1), longest s (exactly s .0 c))))
+        let b = and-eq-true-iff (isCapture s && ltb row (countIn s)) (leb (place + lengthIn s row) (length s)) .0 h in
+        let c = and-eq-true-iff (isCapture s) (ltb row (countIn s)) .0 (b .0) .0 in
+        (omega arith, omega (arith, leb-true (place + lengthIn s row) (length s) (b .1), longest s c)))
         (λ h. chosen (λ (u : Step). Small u place) (isCapture s) (λ i. tt) (λ i. tt))

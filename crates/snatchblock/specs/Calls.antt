@@ -11,7 +11,6 @@ use Rattle.bus.specs.Transact as bus
 use Rattle.bus.specs.declared.Transacted.{Transacted}
 use Rattle.clock.specs.Broadcast as clock
 use Rattle.clock.specs.declared.Sampled.{Sampled}
-use Rattle.pack.specs.SetUp.{setUpOf}
 use Rattle.pack.specs.Sound.{soundOf}
 use Rattle.pack.specs.declared.Sample.{Sample}
 use Rattle.pack.specs.declared.Setup.{Setup}
@@ -80,7 +79,7 @@ sampleArea area sample room =
     cond (isArea area) (areaAfter area (sampled area sample room .answer) (sampled area sample room .state)) area
 
 unfoldable pub sampleRoom : List ℕ → Sample → List ℕ → List ℕ
-sampleRoom area sample room = cond (isArea area) (clock.roomAfter (stateIn area) sample room) room
+sampleRoom area sample room = cond (isArea area) (clock.broadcastRoom (stateIn area) sample room) room
 
 -- a transaction on the area's state
 abbrev pub transacted : List ℕ → List ℕ → List ℕ → Bool → List ℕ → List ℕ → Transacted
@@ -100,4 +99,4 @@ transactArea area service factory read bytes room =
 
 unfoldable pub transactRoom : List ℕ → List ℕ → List ℕ → Bool → List ℕ → List ℕ → List ℕ
 transactRoom area service factory read bytes room =
-    cond (isArea area) (bus.roomAfter (stateIn area) service factory read bytes room) room
+    cond (isArea area) (bus.replyRoom (stateIn area) service factory read bytes room) room

@@ -8,11 +8,10 @@ use Rattle.capture.specs.declared.Opened.{Opened}
 use Rattle.capture.specs.declared.Step.{Step}
 use Rattle.capture.specs.declared.Step.the-variants.{Next, End, NotCapture}
 use Rattle.key.specs.Key.{Parts, readOf, makerOf, deviceOf}
-use Rattle.key.specs.declared.Wrote.{Wrote}
 use Rattle.pec.specs.declared.Checked.{Checked}
 use Rattle.pec.specs.declared.Compared.{Compared}
+use Rattle.rooms.specs.declared.Wrote.{Wrote}
 use Rattle.sheet.specs.Block.{Part, ofService, ofFactory}
-use Rattle.sheet_writer.specs.declared.Wrote as sheet
 
 -- an answer, and a number above it
 abbrev pub packed : ℕ → ℕ → ℕ
@@ -30,13 +29,9 @@ checkNumber c = packed (c .answer) (oneIf (c .right))
 abbrev pub comparisonNumber : Compared → ℕ
 comparisonNumber c = packed (c .answer) (c .bits)
 
--- of a key or a name written: answer, length
-abbrev pub keyNumber : Wrote → ℕ
-keyNumber w = packed (w .answer) (w .length)
-
--- of a sheet written: answer, length
-abbrev pub sheetNumber : sheet.Wrote → ℕ
-sheetNumber w = packed (w .answer) (w .length)
+-- of a key, a name or a sheet written: answer, length
+abbrev pub wroteNumber : Wrote → ℕ
+wroteNumber w = packed (w .answer) (w .length)
 
 -- of a capture opened: answer, rows, place of the first body
 abbrev pub openedNumber : Opened → ℕ

@@ -3,8 +3,10 @@ ghost use mathlib.Core.Path.{_≡_};
 ghost use mathlib.Core.Bool.{false};
 ghost use Prim.Native.Nat.{_+_, _*_, _<_, _≤_};
 ghost use lib.ListN.{length};
+ghost use Rattle.area.specs.Area.{areaLength};
 ghost use Rattle.capture.specs.Walk.{openedOf, stepAt};
 ghost use Rattle.key.specs.Key as keys;
+ghost use Rattle.key_writer.specs.Writing as writing;
 ghost use Rattle.pec.specs.Messages.{exchangeCheck, bitComparison};
 ghost use Rattle.pec.specs.Pec.{pecOf};
 ghost use Rattle.sheet.specs.Block.{partOf, blockAnswer};
@@ -12,18 +14,12 @@ ghost use Rattle.sheet.specs.Sheet.{isSheet};
 ghost use Rattle.sheet_writer.specs.Writing as sheets;
 ghost use Rattle.pack.specs.SetUp.{setUpOf};
 ghost use Rattle.snatchblock.specs.Calls.{sampleWith, setupWith, startNumber, startArea, soundIn, stays, areaAfter, sampleNumber, sampleArea, sampleRoom, transactNumber, transactArea, transactRoom};
-ghost use Rattle.snatchblock.specs.Packed.{packed, oneIf, checkNumber, comparisonNumber, keyNumber, sheetNumber, openedNumber, readNumber, placeNumber, blockNumber, rowNumber, stepNumber};
+ghost use Rattle.snatchblock.specs.Packed.{packed, oneIf, checkNumber, comparisonNumber, wroteNumber, openedNumber, readNumber, placeNumber, blockNumber, rowNumber, stepNumber};
 use capture::Step;
 use pack::Sample;
 use pack::Setup;
 use pack::State;
 use sheet::Found;
-
-fn number(answer: u8) -> u16
-    ensures { λ r. ⌜ (r ≡ answer) × (r < 256) ⌝ }
-{
-    answer as u16
-}
 
 fn one_if(b: bool) -> usize
     ensures { λ r. ⌜ (r ≡ oneIf b) × (r < 2) ⌝ }
@@ -35,8 +31,8 @@ fn one_if(b: bool) -> usize
 }
 
 // An answer in the low byte, and a number above it.
-fn pack_up(answer: u16, above: usize) -> u32
-    requires { ⌜ (answer < 256) × (above < 16777216) ⌝ }
+fn pack_up(answer: u8, above: usize) -> u32
+    requires { ⌜ above < 16777216 ⌝ }
     ensures { λ r. ⌜ r ≡ packed answer above ⌝ }
 {
     (answer as u32) + 256 * (above as u32)
@@ -54,7 +50,7 @@ pub extern "C" fn snatchblock_exchange_check(bytes: &[u8]) -> u32
     ensures { λ r. ⌜ r ≡ checkNumber (exchangeCheck (now (bytes .entry))) ⌝ }
 {
     let c = pec::exchange_check(bytes);
-    pack_up(number(c.answer), one_if(c.right))
+    pack_up(c.answer, one_if(c.right))
 }
 
 #[no_mangle]
@@ -62,7 +58,7 @@ pub extern "C" fn snatchblock_bit_comparison(a: &[u8], b: &[u8]) -> u32
     ensures { λ r. ⌜ r ≡ comparisonNumber (bitComparison (now (a .entry)) (now (b .entry))) ⌝ }
 {
     let c = pec::bit_comparison(a, b);
-    pack_up(number(c.answer), c.bits as usize)
+    pack_up(c.answer, c.bits as usize)
 }
 
 #[no_mangle]
@@ -73,16 +69,16 @@ pub extern "C" fn snatchblock_write_key(
     serial: u16,
     room: &mut [u8],
 ) -> u32
-    ensures { λ r. ⌜ r ≡ keyNumber (keys.wroteOf (now (maker .entry)) (now (device .entry)) date serial (now (room .entry))) ⌝ }
-    ensures { λ _. ⌜ now (room .exit) ≡ keys.roomAfter (now (maker .entry)) (now (device .entry)) date serial (now (room .entry)) ⌝ }
+    ensures { λ r. ⌜ r ≡ wroteNumber (writing.keyWrote (now (maker .entry)) (now (device .entry)) date serial (now (room .entry))) ⌝ }
+    ensures { λ _. ⌜ now (room .exit) ≡ writing.keyRoom (now (maker .entry)) (now (device .entry)) date serial (now (room .entry)) ⌝ }
 {
-    let w = key::write_key(maker, device, date, serial, room);
+    let w = key_writer::write_key(maker, device, date, serial, room);
     pack_up(w.answer, w.length)
 }
 
 #[no_mangle]
 pub extern "C" fn snatchblock_unescape(part: &[u8], room: &mut [u8]) -> u32
-    ensures { λ r. ⌜ r ≡ keyNumber (keys.plainWrote (keys.nameIn (now (part .entry))) (now (room .entry))) ⌝ }
+    ensures { λ r. ⌜ r ≡ wroteNumber (keys.plainWrote (keys.nameIn (now (part .entry))) (now (room .entry))) ⌝ }
     ensures { λ _. ⌜ now (room .exit) ≡ keys.plainRoom (keys.nameIn (now (part .entry))) (now (room .entry)) ⌝ }
 {
     let w = key::unescape(part, room);
@@ -108,8 +104,8 @@ pub extern "C" fn snatchblock_write_sheet(
     has23: bool,
     body23: &[u8],
 ) -> u32
-    ensures { λ r. ⌜ r ≡ sheetNumber (sheets.wroteOf (sheets.choice has20 (now (body20 .entry)) has21 (now (body21 .entry)) has22 (now (body22 .entry)) has23 (now (body23 .entry))) (now (room .entry))) ⌝ }
-    ensures { λ _. ⌜ now (room .exit) ≡ sheets.roomOf (sheets.choice has20 (now (body20 .entry)) has21 (now (body21 .entry)) has22 (now (body22 .entry)) has23 (now (body23 .entry))) (now (room .entry)) ⌝ }
+    ensures { λ r. ⌜ r ≡ wroteNumber (sheets.sheetWrote (sheets.choice has20 (now (body20 .entry)) has21 (now (body21 .entry)) has22 (now (body22 .entry)) has23 (now (body23 .entry))) (now (room .entry))) ⌝ }
+    ensures { λ _. ⌜ now (room .exit) ≡ sheets.sheetRoom (sheets.choice has20 (now (body20 .entry)) has21 (now (body21 .entry)) has22 (now (body22 .entry)) has23 (now (body23 .entry))) (now (room .entry)) ⌝ }
 {
     let w = sheet_writer::write_sheet(
         room,
@@ -122,7 +118,7 @@ pub extern "C" fn snatchblock_write_sheet(
         has23,
         body23,
     );
-    pack_up(number(w.answer), w.length)
+    pack_up(w.answer, w.length)
 }
 
 #[no_mangle]
@@ -130,7 +126,7 @@ pub extern "C" fn snatchblock_open_capture(bytes: &[u8]) -> u32
     ensures { λ r. ⌜ r ≡ openedNumber (openedOf (now (bytes .entry))) ⌝ }
 {
     let o = capture::open(bytes);
-    pack_up(number(o.answer), o.rows + 256 * o.place)
+    pack_up(o.answer, o.rows + 256 * o.place)
 }
 
 // Set-up refused, or bytes of another size: the area stays.
@@ -157,7 +153,7 @@ pub extern "C" fn snatchblock_set_up(
     ensures { λ r. ⌜ r ≡ startNumber (now (area .entry)) (setUpOf (setupWith DesignCapacity full remaining DesignVoltage MaxError CycleCount ManufactureDate SerialNumber ChargingCurrent ChargingVoltage TemperatureLimit DischargeLimit) (sampleWith voltage current temperature counter)) ⌝ }
     ensures { λ _. ⌜ now (area .exit) ≡ startArea (now (area .entry)) (setUpOf (setupWith DesignCapacity full remaining DesignVoltage MaxError CycleCount ManufactureDate SerialNumber ChargingCurrent ChargingVoltage TemperatureLimit DischargeLimit) (sampleWith voltage current temperature counter)) ⌝ }
 {
-    if area.len() != 186 {
+    if area.len() != area::LENGTH {
         return 1;
     }
     let setup = Setup {
@@ -182,7 +178,7 @@ pub extern "C" fn snatchblock_set_up(
     };
     let started = pack::set_up(setup, first);
     if started.answer != 0 {
-        return pack_up(number(started.answer), 0);
+        return pack_up(started.answer, 0);
     }
     area::store(started.state, area);
     0
@@ -201,7 +197,7 @@ pub extern "C" fn snatchblock_sound(area: &[u8]) -> bool
 
 // What a call leaves in the area.
 fn keep(area: &mut [u8], answer: u8, state: State)
-    requires { ⌜ (length (now area) ≡ 186) × (stays answer ≡ false → state .pack .kept .count ≤ 60) ⌝ }
+    requires { ⌜ (length (now area) ≡ areaLength) × (stays answer ≡ false → state .pack .recent .count ≤ 60) ⌝ }
     ensures { λ _. ⌜ now (area .exit) ≡ areaAfter (now (area .entry)) answer state ⌝ }
 {
     if answer == 1 {
@@ -238,7 +234,7 @@ pub extern "C" fn snatchblock_sample(
     };
     let out = clock::sample(held.state, sample, room);
     keep(area, out.answer, out.state);
-    pack_up(number(out.answer), out.length)
+    pack_up(out.answer, out.length)
 }
 
 #[no_mangle]
@@ -260,11 +256,11 @@ pub extern "C" fn snatchblock_transact<'a>(
     }
     let done = bus::transact(held.state, service, factory, read, bytes, room);
     keep(area, done.answer, done.state);
-    pack_up(number(done.answer), done.length)
+    pack_up(done.answer, done.length)
 }
 
-fn key_up(answer: u16, maker: usize, device: usize, date: u16, serial: u16) -> u64
-    requires { ⌜ (answer < 256) × ((maker ≤ 64) × (device ≤ 64)) ⌝ }
+fn key_up(answer: u8, maker: usize, device: usize, date: u16, serial: u16) -> u64
+    requires { ⌜ (maker ≤ 64) × (device ≤ 64) ⌝ }
     ensures { λ r. ⌜ r ≡ answer + 256 * maker + 65536 * device + 16777216 * date + 1099511627776 * serial ⌝ }
 {
     (answer as u64)

@@ -1,8 +1,8 @@
 -- A signed word's direction and size are those of the integer it stands for.
 -- Assumes nothing.
 use Prim.Native.Nat.{ℕ, suc, _-_, _<_, _≤_}
-use mathlib.Core.Bool.{Bool, true, false, _&&_}
-use mathlib.Core.Path.{_≡_, refl, ap, _∙_, sym}
+use mathlib.Core.Bool.{Bool, _&&_, and-true, and-false}
+use mathlib.Core.Path.{_≡_, ap, _∙_, sym}
 use native.Mathlib.Omega.{arith}
 use native.Mathlib.Decide.{decLt}
 use borrow.Author.Tests.{lt-ltb, le-ltb, le-leb, lt-leb}
@@ -11,7 +11,7 @@ use lib.IntN.{ℤ, pos, negsuc, natAbs}
 use lib.Signed.{ltZ}
 use mir.Syntax.{w16}
 use mir.Val.{toZ}
-use Rattle.words.specs.Words.{above, below, sizeOf}
+use Rattle.words.specs.Words.{sizeOf, AboveTrue, BelowTrue, SizeTrue}
 
 by-dec : {P : Type 0} (x y : ℕ) → Dec (x < y) → (x < y → P) → (y ≤ x → P) → P
 by-dec x y (yes h) f g = f h
@@ -29,22 +29,14 @@ low w h = simp (lt-ltb w 32768 h)
 pub high : (w : ℕ) → 32768 ≤ w → toZ w16 w ≡ negsuc (65536 - suc w)
 high w h = simp (le-ltb w 32768 h)
 
-and-true : (a : Bool) → a && true ≡ a
-and-true true = refl
-and-true false = refl
-
-and-false : (a : Bool) → a && false ≡ false
-and-false true = refl
-and-false false = refl
-
 -- above 0
-pub above-is : (w : ℕ) → above w ≡ ltZ (pos 0) (toZ w16 w)
+pub above-is : AboveTrue
 above-is w =
     split w 32768 (λ h. ap (λ (b : Bool). ltb 0 w && b) (lt-ltb w 32768 h) ∙ and-true (ltb 0 w) ∙ ap (ltZ (pos 0)) (sym (low w h)))
     (λ h. ap (λ (b : Bool). ltb 0 w && b) (le-ltb w 32768 h) ∙ and-false (ltb 0 w) ∙ ap (ltZ (pos 0)) (sym (high w h)))
 
 -- below 0
-pub below-is : (w : ℕ) → below w ≡ ltZ (toZ w16 w) (pos 0)
+pub below-is : BelowTrue
 below-is w =
     split w 32768 (λ h. lt-leb 32768 w h ∙ sym (le-ltb w 0 (omega arith)) ∙ ap (λ (z : ℤ). ltZ z (pos 0)) (sym (low w h)))
     (λ h. le-leb 32768 w h ∙ ap (λ (z : ℤ). ltZ z (pos 0)) (sym (high w h)))
@@ -56,14 +48,11 @@ size-high : (w : ℕ) → 32768 ≤ w → sizeOf w ≡ 65536 - w
 size-high w h = simp (le-leb 32768 w h)
 
 -- the size of a word
-pub size-is : (w : ℕ) → w < 65536 → sizeOf w ≡ natAbs (toZ w16 w)
+pub size-is : SizeTrue
 size-is w l =
     split w 32768 (λ h. size-low w h ∙ ap natAbs (sym (low w h)))
     (λ h. let e : 65536 - w ≡ suc (65536 - suc w) = omega arith in size-high w h ∙ e ∙ ap natAbs (sym (high w h)))
 
--- it is at most 32,768, and so is the integer's
-pub size-most : (w : ℕ) → sizeOf w ≤ 32768
-size-most w = split w 32768 (λ h. omega (arith, size-low w h)) (λ h. omega (arith, size-high w h))
-
+-- the integer's is at most 32,768
 pub integer-most : (w : ℕ) → natAbs (toZ w16 w) ≤ 32768
 integer-most w = split w 32768 (λ h. omega (arith, ap natAbs (low w h))) (λ h. omega (arith, ap natAbs (high w h)))

@@ -1,8 +1,13 @@
 -- 16-bit words: their two bytes, and the signed number that one stands for.
 -- Assumes nothing.
-use Prim.Native.Nat.{ℕ, _+_, _-_, _*_, _/_, _%_}
+use Prim.Native.Nat.{ℕ, _+_, _-_, _*_, _/_, _%_, _<_}
 use mathlib.Core.Bool.{Bool, cond, _&&_}
+use mathlib.Core.Path.{_≡_}
 use lib.Dec.{ltb, leb}
+use lib.IntN.{pos, natAbs}
+use lib.Signed.{ltZ}
+use mir.Syntax.{w16}
+use mir.Val.{toZ}
 
 -- the low byte of a word
 abbrev pub lowOf : ℕ → ℕ
@@ -27,3 +32,14 @@ below w = leb 32768 w
 -- the size of a signed word: 32,768 for 0x8000
 abbrev pub sizeOf : ℕ → ℕ
 sizeOf w = cond (below w) (65536 - w) w
+
+-- ---- promised: direction and size are those of the integer that the word stands for
+
+abbrev pub AboveTrue : Type 0
+AboveTrue = (w : ℕ) → above w ≡ ltZ (pos 0) (toZ w16 w)
+
+abbrev pub BelowTrue : Type 0
+BelowTrue = (w : ℕ) → below w ≡ ltZ (toZ w16 w) (pos 0)
+
+abbrev pub SizeTrue : Type 0
+SizeTrue = (w : ℕ) → w < 65536 → sizeOf w ≡ natAbs (toZ w16 w)

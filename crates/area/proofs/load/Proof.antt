@@ -1,39 +1,30 @@
 -- `area::load` meets its contract.
 -- Assumes nothing.
-use Rattle.area.specs.Area.{areaOf, loadedOf}
-use Rattle.area.proofs.Tests.{facts}
-use Rattle.area.proofs.Held.{held}
-use Rattle.area.proofs.Stored.{below-all}
 use borrow.Author.Needs.{needs}
 use native.Mathlib.Omega.{arith}
 use mathlib.Core.Path.{ap, _∙_, sym}
+use Rattle.area.specs.Area.{areaOf, loadedOf}
+use Rattle.rooms.proofs.Rooms.{all-bytes}
+use Rattle.area.proofs.Whole.{area-size, held}
 use Rattle.area.proofs.load.Statement.{statement}
 use Rattle.area.proofs.load.Tie as tie
 
-is-area-requires : tie.Need-is-area-requires
-is-area-requires c κs = search needs
-
 state-in-requires : tie.Need-state-in-requires
-state-in-requires c κs =
-    omega (arith, facts (c .before .before .before .args .area .now) (sym (c .before .is-area .ensures) ∙ c .if1 .taken) .size)
+state-in-requires c κs = area-size (c .before .before .before .args .area .now) (sym (c .before .is-area .ensures) ∙ c .if1 .taken)
 
 returns : tie.Need-returns
 unfolding loadedOf
 returns c =
     let area = c .before .before .before .before .args .area .now in
-    let bytes = below-all 256 area (λ i. omega (arith, c .before .before .before .shared-slice-known .given i)) in
-    let is = sym (c .before .before .is-area .ensures) ∙ c .before .if1 .taken in (
-      simp (c .state-in .ensures, ← c .before .before .is-area .ensures, c .before .if1 .taken),
-      λ z. ap areaOf (c .state-in .ensures) ∙ held area bytes is,
-    )
-
-zero-requires : tie.Need-zero-requires
-zero-requires c κs = search needs
+    let bytes = all-bytes area (λ i. omega (arith, c .before .before .before .shared-slice-known .given i)) in
+    let is = sym (c .before .before .is-area .ensures) ∙ c .before .if1 .taken in
+    (rw (c .state-in .ensures, is), λ z. ap areaOf (c .state-in .ensures) ∙ held area bytes is)
 
 returns-2 : tie.Need-returns-2
 unfolding loadedOf
 returns-2 c =
-    (simp (c .zero .ensures, ← c .before .before .is-area .ensures, c .before .if1 .left), λ z. absurd (omega (arith, z)))
+    let other = sym (c .before .before .is-area .ensures) ∙ c .before .if1 .left in
+    (rw (c .zero .ensures, other), λ z. absurd (omega (arith, z)))
 
 pub load-spec : {M : Type 1} → statement M
-load-spec = tie.close (tie.spec is-area-requires state-in-requires returns zero-requires returns-2)
+load-spec = tie.close (tie.spec (λ c κs. search needs) state-in-requires returns (λ c κs. search needs) returns-2)

@@ -1,42 +1,27 @@
 -- `area::put_timers` meets its contract.
 -- Assumes nothing.
 use borrow.Author.Needs.{needs}
+use mathlib.Core.Path.{sym}
+use Rattle.rooms.proofs.Rooms.{whole}
+use Rattle.area.specs.Parts.{timersBytes}
 use Rattle.area.proofs.put_timers.Statement.{statement}
 use Rattle.area.proofs.put_timers.Tie as tie
 
-cast-put-number : tie.Need-cast-put-number
-cast-put-number c = search needs
-
-put-number-requires : tie.Need-put-number-requires
-put-number-requires c κs = search needs
-
-cast-put-number-2 : tie.Need-cast-put-number-2
-cast-put-number-2 c = search needs
-
-put-number-requires-2 : tie.Need-put-number-requires-2
-put-number-requires-2 c κs = search needs
-
-cast-put-number-3 : tie.Need-cast-put-number-3
-cast-put-number-3 c = search needs
-
-put-number-requires-3 : tie.Need-put-number-requires-3
-put-number-requires-3 c κs = search needs
-
-same-length : tie.Need-same-length
-same-length c = search needs
-
 returns : tie.Need-returns
-returns c = rw (c .before .before .put-number3 .ensures, c .before .before .before .before .before .before .before .put-number2 .ensures, c .before .before .before .before .before .before .before .before .before .before .before .before .put-number .ensures)
+returns c =
+    let start = c .before .before .before .before .before .before .before .before .before .before .before .before .before .before .before .before in
+    rw (c .before .before .put-number3 .ensures, c .before .before .before .before .before .before .before .put-number2 .ensures, c .before .before .before .before .before .before .before .before .before .before .before .before .put-number .ensures)
+    (whole (start .args .part .now) (timersBytes (start .args .t)) (sym (start .pre)))
 
 pub put-timers-spec : {M : Type 1} → statement M
 put-timers-spec =
     tie.close
     (tie.spec
-    cast-put-number
-    put-number-requires
-    cast-put-number-2
-    put-number-requires-2
-    cast-put-number-3
-    put-number-requires-3
-    same-length
+    (λ c. search needs)
+    (λ c κs. search needs)
+    (λ c. search needs)
+    (λ c κs. search needs)
+    (λ c. search needs)
+    (λ c κs. search needs)
+    (λ c. search needs)
     returns)

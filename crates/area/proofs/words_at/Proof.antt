@@ -1,65 +1,46 @@
 -- `area::words_at` meets its contract.
 -- Assumes nothing.
-use Prim.Native.Nat.{ℕ, _≤_, _+_, _-_, _*_}
-use mathlib.Core.List.{List}
-use lib.ListN.{set, replicate, length-replicate}
+use Prim.Native.Nat.{_≤_, _+_, _-_, _*_}
+use lib.ListN.{length, replicate, length-set}
 use lib.Seq.{sets}
-use Rattle.area.specs.Area.{numberAt, wordsAt}
-use Rattle.area.proofs.Stores.{read-turn, whole, words-count}
+use native.Mathlib.Nat.{add-zero, sub-zero}
 use native.Mathlib.Omega.{arith}
-use mathlib.Core.Path.{_≡_, refl, ap, _∙_, sym}
+use mathlib.Core.Path.{_≡_, refl, _∙_}
+use Rattle.area.specs.Numbers.{numbersAt}
+use Rattle.area.proofs.Stores.{numbers-turn, numbers-whole}
 use Rattle.area.proofs.words_at.Statement.{statement}
 use Rattle.area.proofs.words_at.Tie as tie
 
 abbrev Inv-loop : tie.InvT-loop
-Inv-loop area at found₀ i₀ found i =
-    (i ≤ 60) × (found ≡ sets (replicate 60 0) 0 (wordsAt i area at))
+Inv-loop part at words₀ i₀ words i =
+    (i ≤ length words₀)
+    × (sets words i (numbersAt (replicate (length words₀ - i) 2) part (at + 2 * i)) ≡ sets words₀ 0 (numbersAt (replicate (length words₀) 2) part at))
+    × (length words ≡ length words₀)
 
 abbrev μ-loop : tie.MeasureT-loop
-μ-loop area at found₀ i₀ found i = 60 - i
+μ-loop part at words₀ i₀ words i = length words₀ - i
 
 loop-holds : tie.Need-loop-holds Inv-loop μ-loop
-loop-holds c = (omega arith, refl)
-
-mul-word-at : tie.Need-mul-word-at Inv-loop μ-loop
-mul-word-at c = omega arith
-
-add-word-at : tie.Need-add-word-at Inv-loop μ-loop
-add-word-at c = omega arith
-
-word-at-requires : tie.Need-word-at-requires Inv-loop μ-loop
-word-at-requires c κs = omega arith
-
-mul-found : tie.Need-mul-found Inv-loop μ-loop
-mul-found c = omega arith
-
-array-write-found : tie.Need-array-write-found Inv-loop μ-loop
-array-write-found c = omega arith
-
-add-i : tie.Need-add-i Inv-loop μ-loop
-add-i c = omega arith
-
-loop-less : tie.Need-loop-less Inv-loop μ-loop
-loop-less c = omega arith
+loop-holds c = (omega arith, rw (sub-zero, add-zero), refl)
 
 loop-again : tie.Need-loop-again Inv-loop μ-loop
 loop-again c =
     let l = c .before .before .loop in
-    let a = c .before .before .before .before .args in (
+    let a = c .before .before .before .before .before .args in (
       omega arith,
-      ap (λ (v : ℕ). set (l .found) (l .i) v) (c .word-at .ensures)
-          ∙ ap (λ (f : List ℕ). set f (l .i) (numberAt 2 (a .area .now) (a .at + 2 * l .i))) (l .inv .1)
-          ∙ read-turn (replicate 60 0) (a .area .now) (a .at) (l .i),
+      rw (c .word-at .ensures) (numbers-turn 2 (length (a .words .now)) (l .words) (a .part .now) (l .i) (a .at + 2 * l .i) (a .at + 2 * (l .i + 1)) (omega arith) (omega arith) ∙ l .inv .1),
+      simp length-set (l .inv .2),
     )
+
+same-length : tie.Need-same-length Inv-loop μ-loop
+same-length c = c .before .loop .inv .2
 
 returns : tie.Need-returns Inv-loop μ-loop
 returns c =
     let l = c .before .loop in
-    let a = c .before .before .before .args in
-    let e : l .i ≡ 60 = omega (arith, c .loop-test .left) in
-    l .inv .1
-    ∙ ap (λ (k : ℕ). sets (replicate 60 0) 0 (wordsAt k (a .area .now) (a .at))) e
-    ∙ whole (replicate 60 0) (wordsAt 60 (a .area .now) (a .at)) (words-count 60 (a .area .now) (a .at) ∙ sym (length-replicate {A = ℕ} 60 0))
+    let a = c .before .before .before .before .args in
+    let none : length (a .words .now) - l .i ≡ 0 = omega arith in
+    (rw none at (l .inv .1)) ∙ numbers-whole 2 (a .words .now) (a .part .now) (a .at)
 
 pub words-at-spec : {M : Type 1} → statement M
 words-at-spec =
@@ -68,12 +49,13 @@ words-at-spec =
     Inv-loop
     μ-loop
     loop-holds
-    mul-word-at
-    add-word-at
-    word-at-requires
-    mul-found
-    array-write-found
-    add-i
-    loop-less
+    (λ c. omega arith)
+    (λ c. omega arith)
+    (λ c κs. omega arith)
+    (λ c. omega arith)
+    (λ c. omega arith)
+    (λ c. omega arith)
+    (λ c. omega arith)
     loop-again
+    same-length
     returns)

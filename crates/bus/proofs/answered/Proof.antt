@@ -4,11 +4,8 @@ use borrow.Author.Needs.{needs}
 use Rattle.bus.proofs.answered.Statement.{statement}
 use Rattle.bus.proofs.answered.Tie as tie
 
-code-after-requires : tie.Need-code-after-requires
-code-after-requires c κs = search needs
-
 returns : tie.Need-returns
 returns c = simp (c .code-after .ensures)
 
 pub answered-spec : {M : Type 1} → statement M
-answered-spec = tie.close (tie.spec code-after-requires returns)
+answered-spec = tie.close (tie.spec (λ c κs. search needs) returns)

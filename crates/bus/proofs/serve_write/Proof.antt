@@ -5,42 +5,6 @@ use borrow.Author.Needs.{needs}
 use Rattle.bus.proofs.serve_write.Statement.{statement}
 use Rattle.bus.proofs.serve_write.Tie as tie
 
-row-requires : tie.Need-row-requires
-row-requires c κs = search needs
-
-enum-told : tie.Need-enum-told
-enum-told c = search needs
-
-unchanged-requires : tie.Need-unchanged-requires
-unchanged-requires c κs = search needs
-
-enum-told-2 : tie.Need-enum-told-2
-enum-told-2 c = search needs
-
-unchanged-requires-2 : tie.Need-unchanged-requires-2
-unchanged-requires-2 c κs = search needs
-
-enum-told-3 : tie.Need-enum-told-3
-enum-told-3 c = search needs
-
-unchanged-requires-3 : tie.Need-unchanged-requires-3
-unchanged-requires-3 c κs = search needs
-
-enum-told-4 : tie.Need-enum-told-4
-enum-told-4 c = search needs
-
-unchanged-requires-4 : tie.Need-unchanged-requires-4
-unchanged-requires-4 c κs = search needs
-
-enum-told-5 : tie.Need-enum-told-5
-enum-told-5 c = search needs
-
-pack-written-requires : tie.Need-pack-written-requires
-pack-written-requires c κs = search needs
-
-answered-requires : tie.Need-answered-requires
-answered-requires c κs = search needs
-
 returns : tie.Need-returns
 returns c = simp (c .unchanged .ensures, sym (c .before .before .before .row .ensures) ∙ c .before .enum-told .given .1)
 
@@ -61,18 +25,18 @@ pub serve-write-spec : {M : Type 1} → statement M
 serve-write-spec =
     tie.close
     (tie.spec
-    row-requires
-    enum-told
-    unchanged-requires
-    enum-told-2
-    unchanged-requires-2
-    enum-told-3
-    unchanged-requires-3
-    enum-told-4
-    unchanged-requires-4
-    enum-told-5
-    pack-written-requires
-    answered-requires
+    (λ c κs. search needs)
+    (λ c. search needs)
+    (λ c κs. search needs)
+    (λ c. search needs)
+    (λ c κs. search needs)
+    (λ c. search needs)
+    (λ c κs. search needs)
+    (λ c. search needs)
+    (λ c κs. search needs)
+    (λ c. search needs)
+    (λ c κs. search needs)
+    (λ c κs. search needs)
     returns
     returns-2
     returns-3

@@ -10,15 +10,9 @@ returns : tie.Need-returns
 unfolding timersWritten
 returns c = simp (ne-eqb _ _ (c .if1 .taken))
 
-chosen-requires : tie.Need-chosen-requires
-chosen-requires c κs = search needs
-
-chosen-requires-2 : tie.Need-chosen-requires-2
-chosen-requires-2 c κs = search needs
-
 returns-2 : tie.Need-returns-2
 unfolding timersWritten
 returns-2 c = simp (c .chosen2 .ensures, c .before .chosen .ensures, eq-eqb _ _ (c .before .before .if1 .left))
 
 pub timers-written-spec : {M : Type 1} → statement M
-timers-written-spec = tie.close (tie.spec returns chosen-requires chosen-requires-2 returns-2)
+timers-written-spec = tie.close (tie.spec returns (λ c κs. search needs) (λ c κs. search needs) returns-2)

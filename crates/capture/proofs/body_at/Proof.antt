@@ -7,12 +7,6 @@ use Rattle.capture.proofs.Steps.{Within, within, body-shown, body-end, 
 use Rattle.capture.proofs.body_at.Statement.{statement}
 use Rattle.capture.proofs.body_at.Tie as tie
 
-step-at-requires : tie.Need-step-at-requires
-step-at-requires c κs = search needs
-
-enum-known-next : tie.Need-enum-known-next
-enum-known-next c = search needs
-
 sub-result : tie.Need-sub-result
 sub-result c = subst (λ (t : Step). Within t (c .before .before .before .before .before .args .place) (length (c .before .before .before .before .before .args .s .now))) (sym (c .before .before .before .step-at .ensures) ∙ c .before .next .given .1) (within (c .before .before .before .before .before .args .s .now) (c .before .before .before .before .before .args .row) (c .before .before .before .before .before .args .place)) .0
 
@@ -24,27 +18,6 @@ part-result-end c = subst (λ (t : Step). Within t (c .before .before .before .b
 
 enum-told : tie.Need-enum-told
 enum-told c = search needs
-
-sub-result-2 : tie.Need-sub-result-2
-sub-result-2 c = search needs
-
-part-result-start-2 : tie.Need-part-result-start-2
-part-result-start-2 c = search needs
-
-part-result-end-2 : tie.Need-part-result-end-2
-part-result-end-2 c = search needs
-
-enum-told-2 : tie.Need-enum-told-2
-enum-told-2 c = search needs
-
-sub-result-3 : tie.Need-sub-result-3
-sub-result-3 c = search needs
-
-part-result-start-3 : tie.Need-part-result-start-3
-part-result-start-3 c = search needs
-
-part-result-end-3 : tie.Need-part-result-end-3
-part-result-end-3 c = search needs
 
 returns : tie.Need-returns
 returns c = body-shown _ _ _ (c .before .before .before .before .step-at .ensures) (c .before .before .next .given .1)
@@ -59,19 +32,19 @@ pub body-at-spec : {M : Type 1} → statement M
 body-at-spec =
     tie.close
     (tie.spec
-    step-at-requires
-    enum-known-next
+    (λ c κs. search needs)
+    (λ c. search needs)
     sub-result
     part-result-start
     part-result-end
     enum-told
-    sub-result-2
-    part-result-start-2
-    part-result-end-2
-    enum-told-2
-    sub-result-3
-    part-result-start-3
-    part-result-end-3
+    (λ c. search needs)
+    (λ c. search needs)
+    (λ c. search needs)
+    (λ c. search needs)
+    (λ c. search needs)
+    (λ c. search needs)
+    (λ c. search needs)
     returns
     returns-2
     returns-3)

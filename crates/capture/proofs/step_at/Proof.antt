@@ -11,56 +11,26 @@ use Rattle.capture.proofs.Steps.{step-not, step-past, step-long, has-ro
 use Rattle.capture.proofs.step_at.Statement.{statement}
 use Rattle.capture.proofs.step_at.Tie as tie
 
-is-capture-requires : tie.Need-is-capture-requires
-is-capture-requires c κs = search needs
-
 returns : tie.Need-returns
 returns c = (step-not _ _ _ (sym (c .before .is-capture .ensures) ∙ not-true _ (c .if1 .taken)))
 
 shared-slice-read-wide : tie.Need-shared-slice-read-wide
 shared-slice-read-wide c = omega (arith, facts (c .before .before .before .before .args .s .now) (sym (c .before .before .is-capture .ensures) ∙ not-false _ (c .before .if1 .left)) .table)
 
-wide-requires : tie.Need-wide-requires
-wide-requires c κs = search needs
-
 returns-2 : tie.Need-returns-2
 returns-2 c = (step-past _ _ _ (sym (c .before .before .before .before .is-capture .ensures) ∙ not-false _ (c .before .before .before .if1 .left)) (omega arith))
-
-mul-wide : tie.Need-mul-wide
-mul-wide c = search needs
-
-add-wide : tie.Need-add-wide
-add-wide c = search needs
 
 shared-slice-read-wide-2 : tie.Need-shared-slice-read-wide-2
 shared-slice-read-wide-2 c = omega (arith, facts (c .before .before .before .before .before .before .before .args .s .now) (sym (c .before .before .before .before .before .is-capture .ensures) ∙ not-false _ (c .before .before .before .before .if1 .left)) .table)
 
-wide-requires-2 : tie.Need-wide-requires-2
-wide-requires-2 c κs = search needs
-
 returns-3 : tie.Need-returns-3
 returns-3 c = (step-long _ _ _ (sym (c .before .before .before .before .before .before .before .is-capture .ensures) ∙ not-false _ (c .before .before .before .before .before .before .if1 .left)) (omega arith) (omega arith))
-
-sub-if4 : tie.Need-sub-if4
-sub-if4 c = search needs
 
 returns-4 : tie.Need-returns-4
 returns-4 c = (step-long _ _ _ (sym (c .before .before .before .before .before .before .before .before .is-capture .ensures) ∙ not-false _ (c .before .before .before .before .before .before .before .if1 .left)) (omega arith) (omega arith))
 
-mul-t10 : tie.Need-mul-t10
-mul-t10 c = search needs
-
-add-t7 : tie.Need-add-t7
-add-t7 c = search needs
-
 shared-slice-read-t9 : tie.Need-shared-slice-read-t9
 shared-slice-read-t9 c = omega (arith, facts (c .before .before .before .before .before .before .before .before .before .before .before .args .s .now) (sym (c .before .before .before .before .before .before .before .before .before .is-capture .ensures) ∙ not-false _ (c .before .before .before .before .before .before .before .before .if1 .left)) .table)
-
-add-t13 : tie.Need-add-t13
-add-t13 c = search needs
-
-add-t14 : tie.Need-add-t14
-add-t14 c = search needs
 
 returns-5 : tie.Need-returns-5
 returns-5 c = let s = c .before .before .before .before .before .before .before .before .before .before .before .args .s .now in
@@ -73,21 +43,21 @@ pub step-at-spec : {M : Type 1} → statement M
 step-at-spec =
     tie.close
     (tie.spec
-    is-capture-requires
+    (λ c κs. search needs)
     returns
     shared-slice-read-wide
-    wide-requires
+    (λ c κs. search needs)
     returns-2
-    mul-wide
-    add-wide
+    (λ c. search needs)
+    (λ c. search needs)
     shared-slice-read-wide-2
-    wide-requires-2
+    (λ c κs. search needs)
     returns-3
-    sub-if4
+    (λ c. search needs)
     returns-4
-    mul-t10
-    add-t7
+    (λ c. search needs)
+    (λ c. search needs)
     shared-slice-read-t9
-    add-t13
-    add-t14
+    (λ c. search needs)
+    (λ c. search needs)
     returns-5)

@@ -18,35 +18,11 @@ abbrev μ-loop : tie.MeasureT-loop
 loop-holds : tie.Need-loop-holds Inv-loop μ-loop
 loop-holds c = (omega arith, omega arith, refl, refl)
 
-shared-slice-read-room : tie.Need-shared-slice-read-room Inv-loop μ-loop
-shared-slice-read-room c = omega arith
-
-slice-write-room : tie.Need-slice-write-room Inv-loop μ-loop
-slice-write-room c = omega arith
-
-shared-slice-read-room-2 : tie.Need-shared-slice-read-room-2 Inv-loop μ-loop
-shared-slice-read-room-2 c = omega arith
-
-add-room : tie.Need-add-room Inv-loop μ-loop
-add-room c = omega arith
-
 slice-write-room-2 : tie.Need-slice-write-room-2 Inv-loop μ-loop
 slice-write-room-2 c = simp length-set (omega arith)
 
-add-at : tie.Need-add-at Inv-loop μ-loop
-add-at c = omega arith
-
-add-i : tie.Need-add-i Inv-loop μ-loop
-add-i c = omega arith
-
-loop-less : tie.Need-loop-less Inv-loop μ-loop
-loop-less c = omega arith
-
 loop-again : tie.Need-loop-again Inv-loop μ-loop
 loop-again c = (omega arith, omega arith, simp length-set (c .before .before .before .loop .inv .2), pair-set (c .before .before .before .before .args .marks .now) (c .before .before .before .before .args .lengths .now) (c .before .before .before .loop .i) (omega arith) (omega arith) (c .before .before .before .loop .room) (c .before .before .before .loop .at) ∙ c .before .before .before .loop .inv .3)
-
-same-length : tie.Need-same-length Inv-loop μ-loop
-same-length c = c .before .loop .inv .2
 
 returns : tie.Need-returns Inv-loop μ-loop
 returns c = sym (set-end (c .before .loop .room) (c .before .before .args .marks .now) (c .before .before .args .lengths .now) (c .before .loop .at) (c .before .loop .i) (omega arith)) ∙ c .before .loop .inv .3
@@ -58,14 +34,14 @@ put-rows-spec =
     Inv-loop
     μ-loop
     loop-holds
-    shared-slice-read-room
-    slice-write-room
-    shared-slice-read-room-2
-    add-room
+    (λ c. omega arith)
+    (λ c. omega arith)
+    (λ c. omega arith)
+    (λ c. omega arith)
     slice-write-room-2
-    add-at
-    add-i
-    loop-less
+    (λ c. omega arith)
+    (λ c. omega arith)
+    (λ c. omega arith)
     loop-again
-    same-length
+    (λ c. c .before .loop .inv .2)
     returns)

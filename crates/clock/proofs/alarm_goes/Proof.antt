@@ -3,12 +3,9 @@ use borrow.Author.Needs.{needs}
 use Rattle.clock.proofs.alarm_goes.Statement.{statement}
 use Rattle.clock.proofs.alarm_goes.Tie as tie
 
-any-alarm-requires : tie.Need-any-alarm-requires
-any-alarm-requires c κs = search needs
-
 returns : tie.Need-returns
 unfolding alarmGoes
 returns c = simp (c .before .before .any-alarm .ensures)
 
 pub alarm-goes-spec : {M : Type 1} → statement M
-alarm-goes-spec = tie.close (tie.spec any-alarm-requires returns)
+alarm-goes-spec = tie.close (tie.spec (λ c κs. search needs) returns)

@@ -1,39 +1,34 @@
-use Prim.Native.Nat.{_+_}
-use mathlib.Core.Path.{subst⁻¹}
 use native.Mathlib.Nat.{zero-add}
 use denote.Ref.{now}
-use lib.ListN.{length, length-append}
-use lib.Seq.{sets, length-sets}
+use lib.ListN.{length}
+use lib.Seq.{length-sets}
 use Rattle.clock.specs.Broadcast.{alarmsOf, chargerWordsOf, broadcastOf}
-use Rattle.clock.proofs.Sending.{alarms-small, at-most-16}
-use Rattle.clock.proofs.Served.{ready, measured, assembled}
-use Rattle.frame.specs.Transactions.{placed}
-use Rattle.frame.proofs.Rooms.{in-a-row, front}
-use Rattle.registers.specs.Registers.{Measured}
+use Rattle.clock.proofs.Sending.{in-a-row, alarms-small, at-most-16}
+use Rattle.clock.proofs.Served.{sendable, assembled}
+use Rattle.pack.proofs.Soundness.{parts, pack-of-sound}
+use Rattle.rooms.specs.Rooms.{placed}
+use Rattle.rooms.proofs.Rooms.{front}
 use borrow.Author.Needs.{needs}
 use native.Mathlib.Omega.{arith}
-use mathlib.Core.Path.{_≡_, ap, _∙_, sym}
+use mathlib.Core.Path.{_≡_, refl, ap, ap₂, _∙_, sym}
+use Rattle.timers.specs.Countdown.{restartedOf}
 use Rattle.clock.proofs.serve.Statement.{statement}
 use Rattle.clock.proofs.serve.Tie as tie
 
 moved-requires : tie.Need-moved-requires
-moved-requires c κs = ready (c .before .args .s) (c .before .pre .0)
+moved-requires c κs = let f = parts _ (pack-of-sound (c .before .args .s) (c .before .pre .0)) in (f .tank, f .timers)
 
 alarm-goes-requires : tie.Need-alarm-goes-requires
 alarm-goes-requires c κs =
     let start = c .before .before in
-    subst⁻¹ Measured (c .moved .ensures) (measured (start .args .s) (start .args .sample) (start .pre .0))
-
-charger-goes-requires : tie.Need-charger-goes-requires
-charger-goes-requires c κs = search needs
+    sendable (start .args .s .pack) (c .moved .result) (start .args .sample) (parts _ (pack-of-sound _ (start .pre .0)) .tank) (c .moved .ensures)
 
 send-alarms-requires : tie.Need-send-alarms-requires
 send-alarms-requires c κs =
-    let start = c .before .before .before .before .before in (
-      subst⁻¹ Measured (c .before .before .before .moved .ensures) (measured (start .args .s) (start .args .sample) (start .pre .0)),
-      c .before .before .alarm-goes .ensures,
-      start .pre .1,
-    )
+    let start = c .before .before .before .before .before in
+    let moved = c .before .before .before .moved in
+    let ready = sendable (start .args .s .pack) (moved .result) (start .args .sample) (parts _ (pack-of-sound _ (start .pre .0)) .tank) (moved .ensures) in
+    (ready .0, ready .1, c .before .before .alarm-goes .ensures, start .pre .1)
 
 send-charger-words-requires : tie.Need-send-charger-words-requires
 send-charger-words-requires c κs =
@@ -45,12 +40,6 @@ send-charger-words-requires c κs =
     let long : length (c3 .send-alarms .last .1 .1 .0) ≡ length room = ap length (c3 .send-alarms .ensures .1) ∙ length-sets room 0 (alarmsOf q) in
     (c3 .before .before .charger-goes .ensures, omega (arith, long, alarms-small q, c3 .send-alarms .ensures .0, start .pre .1))
 
-restarted-requires : tie.Need-restarted-requires
-restarted-requires c κs = search needs
-
-same-length : tie.Need-same-length
-same-length c = search needs
-
 returns : tie.Need-returns
 returns c =
     let words = c .before .before .before in
@@ -59,26 +48,15 @@ returns c =
     let start = c11 .before .before in
     let q = c11 .moved .result in
     let room = now (start .args .room) in
-    let n = words .send-charger-words .ensures .0 ∙ ap (λ k. k + length (chargerWordsOf q)) (alarms .send-alarms .ensures .0)
-    ∙ sym (length-append (alarmsOf q) (chargerWordsOf q)) in (
-      assembled (start .args .s) (start .args .sample) q (words .send-charger-words .result) (c .restarted .result) (c11 .moved .ensures) n (c .restarted .ensures),
-      words .send-charger-words .ensures .1
-          ∙ ap (λ r. sets r (alarms .send-alarms .result) (chargerWordsOf q)) (alarms .send-alarms .ensures .1)
-          ∙ ap (λ k. sets (sets room 0 (alarmsOf q)) k (chargerWordsOf q)) (alarms .send-alarms .ensures .0 ∙ sym (zero-add (length (alarmsOf q))))
-          ∙ in-a-row room 0 (alarmsOf q) (chargerWordsOf q)
-          ∙ front (broadcastOf q) room (omega (arith, at-most-16 q, start .pre .1))
-          ∙ ap (λ p. placed (broadcastOf p) room) (c11 .moved .ensures),
+    let both =
+    in-a-row room 0 (alarms .send-alarms .result) (alarmsOf q) (chargerWordsOf q) (broadcastOf q) (alarms .send-alarms .ensures .1)
+    (alarms .send-alarms .ensures .0 ∙ sym (zero-add _)) (words .send-charger-words .ensures .1) (words .send-charger-words .ensures .0) refl in
+    let t = c .restarted .ensures ∙ ap₂ (restartedOf (q .timers)) (alarms .before .before .before .alarm-goes .ensures) (alarms .before .before .charger-goes .ensures) in (
+      assembled (start .args .s) (start .args .sample) q (words .send-charger-words .result) (c .restarted .result) (c11 .moved .ensures) (both .0 ∙ zero-add _) t,
+      both .1 ∙ front (broadcastOf q) room (omega (arith, at-most-16 q, start .pre .1)) ∙ ap (λ p. placed (broadcastOf p) room) (c11 .moved .ensures),
     )
 
 pub serve-spec : {M : Type 1} → statement M
 serve-spec =
     tie.close
-    (tie.spec
-    moved-requires
-    alarm-goes-requires
-    charger-goes-requires
-    send-alarms-requires
-    send-charger-words-requires
-    restarted-requires
-    same-length
-    returns)
+    (tie.spec moved-requires alarm-goes-requires (search needs) send-alarms-requires send-charger-words-requires (search needs) (search needs) returns)

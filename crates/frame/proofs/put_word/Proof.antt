@@ -6,36 +6,12 @@ use borrow.Author.Needs.{needs}
 use lib.ListN.{length-set}
 use Rattle.frame.specs.Transactions.{wordBody, replyOf}
 use Rattle.frame.proofs.Replies.{body-check}
-use Rattle.frame.proofs.Rooms.{front}
+use Rattle.rooms.proofs.Rooms.{front}
 use Rattle.frame.proofs.put_word.Statement.{statement}
 use Rattle.frame.proofs.put_word.Tie as tie
 
-low-requires : tie.Need-low-requires
-low-requires c κs = search needs
-
-high-requires : tie.Need-high-requires
-high-requires c κs = search needs
-
-pec-requires : tie.Need-pec-requires
-pec-requires c κs = search needs
-
-slice-aggregate-pec-from : tie.Need-slice-aggregate-pec-from
-slice-aggregate-pec-from c = search needs
-
-pec-from-requires : tie.Need-pec-from-requires
-pec-from-requires c κs = search needs
-
-slice-write-room : tie.Need-slice-write-room
-slice-write-room c = search needs
-
 slice-write-room-2 : tie.Need-slice-write-room-2
 slice-write-room-2 c = simp length-set (omega arith)
-
-slice-write-room-3 : tie.Need-slice-write-room-3
-slice-write-room-3 c = search needs
-
-same-length : tie.Need-same-length
-same-length c = search needs
 
 returns : tie.Need-returns
 unfolding replyOf
@@ -52,13 +28,13 @@ pub put-word-spec : {M : Type 1} → statement M
 put-word-spec =
     tie.close
     (tie.spec
-    low-requires
-    high-requires
-    pec-requires
-    slice-aggregate-pec-from
-    pec-from-requires
-    slice-write-room
+    (λ c κs. search needs)
+    (λ c κs. search needs)
+    (λ c κs. search needs)
+    (λ c. search needs)
+    (λ c κs. search needs)
+    (λ c. search needs)
     slice-write-room-2
-    slice-write-room-3
-    same-length
+    (λ c. search needs)
+    (λ c. search needs)
     returns)

@@ -16,9 +16,6 @@ returns : tie.Need-returns
 unfolding requestOf
 returns c = simp (eq-eqb _ _ (c .if1 .taken))
 
-shared-slice-read-if2 : tie.Need-shared-slice-read-if2
-shared-slice-read-if2 c = search needs
-
 returns-2 : tie.Need-returns-2
 unfolding requestOf
 returns-2 c = simp (ne-eqb _ _ (c .before .before .if1 .left), ne-eqb _ _ (c .if2 .taken))
@@ -32,12 +29,6 @@ returns-3 c =
     let mark = b .if3 .taken in
     simp (some, own, mark, ne-eqb _ _ (c .if4 .taken))
 
-shared-slice-read-if5 : tie.Need-shared-slice-read-if5
-shared-slice-read-if5 c = search needs
-
-add-if5 : tie.Need-add-if5
-add-if5 c = search needs
-
 returns-4 : tie.Need-returns-4
 unfolding requestOf
 returns-4 c =
@@ -47,9 +38,6 @@ returns-4 c =
     let mark = b .if3 .taken in
     simp (some, own, mark, eq-eqb _ _ (c .before .before .if4 .left), ne-eqb _ _ (c .if5 .taken))
 
-shared-slice-read-t10 : tie.Need-shared-slice-read-t10
-shared-slice-read-t10 c = search needs
-
 returns-5 : tie.Need-returns-5
 unfolding requestOf
 returns-5 c =
@@ -58,9 +46,6 @@ returns-5 c =
     let own = eq-eqb _ _ (b .before .if2 .left) in
     let mark = b .if3 .taken in
     simp (some, own, mark, eq-eqb _ _ (c .before .before .before .if4 .left), eq-eqb _ _ (c .before .if5 .left))
-
-write-of-requires : tie.Need-write-of-requires
-write-of-requires c κs = search needs
 
 returns-6 : tie.Need-returns-6
 unfolding requestOf
@@ -82,14 +67,8 @@ returns-7 c =
     let mark = b .if3 .left in
     simp (some, own, mark, ne-eqb _ _ (c .before .if6 .left), ne-eqb _ _ (c .if7 .taken))
 
-shared-slice-read-if8 : tie.Need-shared-slice-read-if8
-shared-slice-read-if8 c = search needs
-
 slice-aggregate-pec : tie.Need-slice-aggregate-pec
 slice-aggregate-pec c = sym (length-take-le 4 (c .before .before .before .before .before .before .before .before .before .args .bytes .now) (omega arith))
-
-pec-requires : tie.Need-pec-requires
-pec-requires c κs = search needs
 
 returns-8 : tie.Need-returns-8
 unfolding requestOf endsInPec
@@ -102,9 +81,6 @@ returns-8 c =
     let five = eq-eqb _ _ (c .before .before .before .before .if7 .left) in
     let last : length (b .before .before .before .before .before .args .bytes .now) - 1 ≡ 4 = omega arith in
     simp (some, own, mark, four, five, last, ← c .before .pec .ensures, ne-eqb _ _ (c .if8 .taken))
-
-write-of-requires-2 : tie.Need-write-of-requires-2
-write-of-requires-2 c κs = search needs
 
 returns-9 : tie.Need-returns-9
 unfolding requestOf endsInPec
@@ -123,20 +99,20 @@ recognise-spec =
     tie.close
     (tie.spec
     returns
-    shared-slice-read-if2
+    (λ c. search needs)
     returns-2
     returns-3
-    shared-slice-read-if5
-    add-if5
+    (λ c. search needs)
+    (λ c. search needs)
     returns-4
-    shared-slice-read-t10
+    (λ c. search needs)
     returns-5
-    write-of-requires
+    (λ c κs. search needs)
     returns-6
     returns-7
-    shared-slice-read-if8
+    (λ c. search needs)
     slice-aggregate-pec
-    pec-requires
+    (λ c κs. search needs)
     returns-8
-    write-of-requires-2
+    (λ c κs. search needs)
     returns-9)

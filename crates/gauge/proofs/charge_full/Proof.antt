@@ -4,11 +4,8 @@ use borrow.Author.Needs.{needs}
 use Rattle.gauge.proofs.charge_full.Statement.{statement}
 use Rattle.gauge.proofs.charge_full.Tie as tie
 
-milliamp-ms-requires : tie.Need-milliamp-ms-requires
-milliamp-ms-requires c κs = search needs
-
 returns : tie.Need-returns
 returns c = simp (c .before .milliamp-ms .ensures .0)
 
 pub charge-full-spec : {M : Type 1} → statement M
-charge-full-spec = tie.close (tie.spec milliamp-ms-requires returns)
+charge-full-spec = tie.close (tie.spec (search needs) returns)

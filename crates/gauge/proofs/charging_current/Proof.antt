@@ -4,9 +4,6 @@ use borrow.Author.Needs.{needs}
 use Rattle.gauge.proofs.charging_current.Statement.{statement}
 use Rattle.gauge.proofs.charging_current.Tie as tie
 
-terminate-charge-requires : tie.Need-terminate-charge-requires
-terminate-charge-requires c κs = search needs
-
 returns : tie.Need-returns
 returns c = simp (← c .before .terminate-charge .ensures, c .if1 .taken)
 
@@ -14,4 +11,4 @@ returns-2 : tie.Need-returns-2
 returns-2 c = simp (← c .before .terminate-charge .ensures, c .if1 .left)
 
 pub charging-current-spec : {M : Type 1} → statement M
-charging-current-spec = tie.close (tie.spec terminate-charge-requires returns returns-2)
+charging-current-spec = tie.close (tie.spec (search needs) returns returns-2)

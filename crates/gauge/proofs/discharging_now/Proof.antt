@@ -4,11 +4,8 @@ use borrow.Author.Needs.{needs}
 use Rattle.gauge.proofs.discharging_now.Statement.{statement}
 use Rattle.gauge.proofs.discharging_now.Tie as tie
 
-rises-requires : tie.Need-rises-requires
-rises-requires c κs = search needs
-
 returns : tie.Need-returns
 returns c = simp (c .rises .ensures)
 
 pub discharging-now-spec : {M : Type 1} → statement M
-discharging-now-spec = tie.close (tie.spec rises-requires returns)
+discharging-now-spec = tie.close (tie.spec (search needs) returns)

@@ -4,11 +4,8 @@ use borrow.Author.Needs.{needs}
 use Rattle.gauge.proofs.remaining_capacity_low.Statement.{statement}
 use Rattle.gauge.proofs.remaining_capacity_low.Tie as tie
 
-remaining-capacity-requires : tie.Need-remaining-capacity-requires
-remaining-capacity-requires c κs = search needs
-
 returns : tie.Need-returns
 returns c = simp (c .remaining-capacity .ensures)
 
 pub remaining-capacity-low-spec : {M : Type 1} → statement M
-remaining-capacity-low-spec = tie.close (tie.spec remaining-capacity-requires returns)
+remaining-capacity-low-spec = tie.close (tie.spec (λ c κs. search needs) returns)

@@ -4,11 +4,8 @@ use borrow.Author.Needs.{needs}
 use Rattle.gauge.proofs.remaining_time_low.Statement.{statement}
 use Rattle.gauge.proofs.remaining_time_low.Tie as tie
 
-average-time-to-empty-requires : tie.Need-average-time-to-empty-requires
-average-time-to-empty-requires c κs = search needs
-
 returns : tie.Need-returns
 returns c = simp (c .average-time-to-empty .ensures)
 
 pub remaining-time-low-spec : {M : Type 1} → statement M
-remaining-time-low-spec = tie.close (tie.spec average-time-to-empty-requires returns)
+remaining-time-low-spec = tie.close (tie.spec (λ c κs. search needs) returns)

@@ -34,157 +34,68 @@ plain-at t = and 1 plain-kinds.ps (is 1 plain-kinds.ps μ-plain t) plain.Pre
 abbrev plain-below : ℕ → In 1 plain-kinds.ps
 plain-below t = and 1 plain-kinds.ps (falls 1 plain-kinds.ps _<_ μ-plain t) plain.Pre
 
-escaped-shared-slice-read-handed : (t : ℕ) → escaped-lts.Need-shared-slice-read-handed (
-  is-marked-reads.Asked,
-  is-marked-reads.Learnt,
-  plain-below t,
-  plain.Post,
-) (escaped-at t) escaped.Post
+abbrev escaped-calls : ℕ → escaped-lts.Claims
+escaped-calls t = (is-marked-reads.Asked, is-marked-reads.Learnt, plain-below t, plain.Post)
+
+abbrev plain-calls : ℕ → plain-lts.Claims
+plain-calls t = (escaped-below t, escaped.Post, plain-below t, plain.Post)
+
+escaped-shared-slice-read-handed : (t : ℕ) → escaped-lts.Need-shared-slice-read-handed (escaped-calls t) (escaped-at t) escaped.Post
 escaped-shared-slice-read-handed t c = omega arith
 
-escaped-is-marked-requires : (t : ℕ) → escaped-lts.Need-is-marked-requires (
-  is-marked-reads.Asked,
-  is-marked-reads.Learnt,
-  plain-below t,
-  plain.Post,
-) (escaped-at t) escaped.Post
+escaped-is-marked-requires : (t : ℕ) → escaped-lts.Need-is-marked-requires (escaped-calls t) (escaped-at t) escaped.Post
 escaped-is-marked-requires t c κs = search needs
 
-escaped-add-plain : (t : ℕ) → escaped-lts.Need-add-plain (
-  is-marked-reads.Asked,
-  is-marked-reads.Learnt,
-  plain-below t,
-  plain.Post,
-) (escaped-at t) escaped.Post
+escaped-add-plain : (t : ℕ) → escaped-lts.Need-add-plain (escaped-calls t) (escaped-at t) escaped.Post
 escaped-add-plain t c = omega arith
 
-escaped-add-plain-2 : (t : ℕ) → escaped-lts.Need-add-plain-2 (
-  is-marked-reads.Asked,
-  is-marked-reads.Learnt,
-  plain-below t,
-  plain.Post,
-) (escaped-at t) escaped.Post
+escaped-add-plain-2 : (t : ℕ) → escaped-lts.Need-add-plain-2 (escaped-calls t) (escaped-at t) escaped.Post
 escaped-add-plain-2 t c = omega arith
 
-escaped-plain-requires : (t : ℕ) → escaped-lts.Need-plain-requires (
-  is-marked-reads.Asked,
-  is-marked-reads.Learnt,
-  plain-below t,
-  plain.Post,
-) (escaped-at t) escaped.Post
+escaped-plain-requires : (t : ℕ) → escaped-lts.Need-plain-requires (escaped-calls t) (escaped-at t) escaped.Post
 escaped-plain-requires t c κs = (omega arith, omega arith)
 
-escaped-returns : (t : ℕ) → escaped-lts.Need-returns (
-  is-marked-reads.Asked,
-  is-marked-reads.Learnt,
-  plain-below t,
-  plain.Post,
-) (escaped-at t) escaped.Post
+escaped-returns : (t : ℕ) → escaped-lts.Need-returns (escaped-calls t) (escaped-at t) escaped.Post
 escaped-returns t c = esc-marked _ _ _ (c .before .before .before .before .if1 .taken) (sym (c .before .before .is-marked .ensures) ∙ c .before .if2 .taken) (omega arith) (c .plain .ensures)
 
-escaped-returns-2 : (t : ℕ) → escaped-lts.Need-returns-2 (
-  is-marked-reads.Asked,
-  is-marked-reads.Learnt,
-  plain-below t,
-  plain.Post,
-) (escaped-at t) escaped.Post
+escaped-returns-2 : (t : ℕ) → escaped-lts.Need-returns-2 (escaped-calls t) (escaped-at t) escaped.Post
 escaped-returns-2 t c = esc-other _ _ _ (c .before .before .before .if1 .taken) (sym (c .before .is-marked .ensures) ∙ c .if2 .left)
 
-escaped-returns-3 : (t : ℕ) → escaped-lts.Need-returns-3 (
-  is-marked-reads.Asked,
-  is-marked-reads.Learnt,
-  plain-below t,
-  plain.Post,
-) (escaped-at t) escaped.Post
+escaped-returns-3 : (t : ℕ) → escaped-lts.Need-returns-3 (escaped-calls t) (escaped-at t) escaped.Post
 escaped-returns-3 t c = esc-end _ _ _ (c .if1 .left)
 
-plain-shared-slice-read-b : (t : ℕ) → plain-lts.Need-shared-slice-read-b (
-  escaped-below t,
-  escaped.Post,
-  plain-below t,
-  plain.Post,
-) (plain-at t) plain.Post
+plain-shared-slice-read-b : (t : ℕ) → plain-lts.Need-shared-slice-read-b (plain-calls t) (plain-at t) plain.Post
 plain-shared-slice-read-b t c = omega arith
 
-plain-add-escaped : (t : ℕ) → plain-lts.Need-add-escaped (
-  escaped-below t,
-  escaped.Post,
-  plain-below t,
-  plain.Post,
-) (plain-at t) plain.Post
+plain-add-escaped : (t : ℕ) → plain-lts.Need-add-escaped (plain-calls t) (plain-at t) plain.Post
 plain-add-escaped t c = omega arith
 
-plain-escaped-requires : (t : ℕ) → plain-lts.Need-escaped-requires (
-  escaped-below t,
-  escaped.Post,
-  plain-below t,
-  plain.Post,
-) (plain-at t) plain.Post
+plain-escaped-requires : (t : ℕ) → plain-lts.Need-escaped-requires (plain-calls t) (plain-at t) plain.Post
 plain-escaped-requires t c κs = (omega arith, omega arith)
 
-plain-add-plain : (t : ℕ) → plain-lts.Need-add-plain (
-  escaped-below t,
-  escaped.Post,
-  plain-below t,
-  plain.Post,
-) (plain-at t) plain.Post
+plain-add-plain : (t : ℕ) → plain-lts.Need-add-plain (plain-calls t) (plain-at t) plain.Post
 plain-add-plain t c = omega arith
 
-plain-add-plain-2 : (t : ℕ) → plain-lts.Need-add-plain-2 (
-  escaped-below t,
-  escaped.Post,
-  plain-below t,
-  plain.Post,
-) (plain-at t) plain.Post
+plain-add-plain-2 : (t : ℕ) → plain-lts.Need-add-plain-2 (plain-calls t) (plain-at t) plain.Post
 plain-add-plain-2 t c = omega arith
 
-plain-plain-requires : (t : ℕ) → plain-lts.Need-plain-requires (
-  escaped-below t,
-  escaped.Post,
-  plain-below t,
-  plain.Post,
-) (plain-at t) plain.Post
+plain-plain-requires : (t : ℕ) → plain-lts.Need-plain-requires (plain-calls t) (plain-at t) plain.Post
 plain-plain-requires t c κs = (omega arith, omega arith)
 
-plain-returns : (t : ℕ) → plain-lts.Need-returns (
-  escaped-below t,
-  escaped.Post,
-  plain-below t,
-  plain.Post,
-) (plain-at t) plain.Post
+plain-returns : (t : ℕ) → plain-lts.Need-returns (plain-calls t) (plain-at t) plain.Post
 plain-returns t c = at-stroke _ _ _ (c .before .before .if1 .taken) (c .if2 .taken)
 
-plain-returns-2 : (t : ℕ) → plain-lts.Need-returns-2 (
-  escaped-below t,
-  escaped.Post,
-  plain-below t,
-  plain.Post,
-) (plain-at t) plain.Post
+plain-returns-2 : (t : ℕ) → plain-lts.Need-returns-2 (plain-calls t) (plain-at t) plain.Post
 plain-returns-2 t c = at-mark _ _ _ (c .before .before .before .before .if1 .taken) (c .before .if3 .taken) (c .escaped .ensures)
 
-plain-returns-3 : (t : ℕ) → plain-lts.Need-returns-3 (
-  escaped-below t,
-  escaped.Post,
-  plain-below t,
-  plain.Post,
-) (plain-at t) plain.Post
+plain-returns-3 : (t : ℕ) → plain-lts.Need-returns-3 (plain-calls t) (plain-at t) plain.Post
 plain-returns-3 t c = at-other _ _ _ (c .before .before .before .before .if1 .taken) (c .before .before .if2 .left) (c .before .if3 .left) (c .plain .ensures)
 
-plain-returns-4 : (t : ℕ) → plain-lts.Need-returns-4 (
-  escaped-below t,
-  escaped.Post,
-  plain-below t,
-  plain.Post,
-) (plain-at t) plain.Post
+plain-returns-4 : (t : ℕ) → plain-lts.Need-returns-4 (plain-calls t) (plain-at t) plain.Post
 plain-returns-4 t c = at-end _ _ _ (c .if1 .left)
 
 pub +escaped+plain-spec : {M : Type 1} → statement M
-+escaped+plain-spec = close μ-escaped μ-plain (λ t. escaped-lts.spec (
-  is-marked-reads.Asked,
-  is-marked-reads.Learnt,
-  plain-below t,
-  plain.Post,
-)
++escaped+plain-spec = close μ-escaped μ-plain (λ t. escaped-lts.spec (escaped-calls t)
     (escaped-at t)
     escaped.Post
     (escaped-shared-slice-read-handed t)
@@ -196,7 +107,7 @@ pub +escaped+plain-spec : {M : Type 1} → statement M
     (escaped-returns-2 t)
     (escaped-returns-3 t))
     λ t. plain-lts.spec
-    (escaped-below t, escaped.Post, plain-below t, plain.Post)
+    (plain-calls t)
     (plain-at t)
     plain.Post
     (plain-shared-slice-read-b t)

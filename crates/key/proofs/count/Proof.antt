@@ -1,31 +1,22 @@
-use Rattle.key.proofs.Unescaping.{counted, uncounted}
+use Rattle.key.specs.Steps.{countOf}
 use borrow.Author.Needs.{needs}
-use mathlib.Core.Path.{_∙_, sym}
+use mathlib.Core.Path.{ap, _∙_, sym}
 use Rattle.key.proofs.count.Statement.{statement}
 use Rattle.key.proofs.count.Tie as tie
-
-plain-requires : tie.Need-plain-requires
-plain-requires c κs = search needs
-
-enum-known-n : tie.Need-enum-known-n
-enum-known-n c = search needs
 
 enum-told : tie.Need-enum-told
 enum-told c = search needs
 
-enum-told-2 : tie.Need-enum-told-2
-enum-told-2 c = search needs
-
 returns : tie.Need-returns
-returns c = counted _ _ (sym (c .before .before .before .plain .ensures) ∙ c .before .n .given .1)
+returns c = ap countOf (sym (c .before .n .given .1) ∙ c .before .before .before .plain .ensures)
 
 returns-2 : tie.Need-returns-2
-returns-2 c = uncounted _ _ (sym (c .before .before .plain .ensures) ∙ c .enum-told .given .1) tt
+returns-2 c = ap countOf (sym (c .enum-told .given .1) ∙ c .before .before .plain .ensures)
 
 returns-3 : tie.Need-returns-3
-returns-3 c = uncounted _ _ (sym (c .before .before .plain .ensures) ∙ c .enum-told2 .given .1) tt
+returns-3 c = ap countOf (sym (c .enum-told2 .given .1) ∙ c .before .before .plain .ensures)
 
 pub count-spec : {M : Type 1} → statement M
 count-spec =
     tie.close
-    (tie.spec plain-requires enum-known-n enum-told enum-told-2 returns returns-2 returns-3)
+    (tie.spec (λ c κs. search needs) (λ c. search needs) enum-told (λ c. search needs) returns returns-2 returns-3)

@@ -5,9 +5,6 @@ use mathlib.Core.Path.{refl}
 use Rattle.key.proofs.device_part.Statement.{statement}
 use Rattle.key.proofs.device_part.Tie as tie
 
-find-requires : tie.Need-find-requires
-find-requires c κs = search needs
-
 sub-result : tie.Need-sub-result
 sub-result c = rw (c .find .ensures) (shown (c .before .before .args .key .now) (readKey (c .before .before .args .key .now)) refl .device-order)
 
@@ -22,4 +19,4 @@ returns c = rw (c .before .find .ensures) (shown (c .before .before .before .arg
 
 pub device-part-spec : {M : Type 1} → statement M
 device-part-spec =
-    tie.close (tie.spec find-requires sub-result part-result-start part-result-end returns)
+    tie.close (tie.spec (λ c κs. search needs) sub-result part-result-start part-result-end returns)

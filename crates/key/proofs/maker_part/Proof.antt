@@ -5,15 +5,6 @@ use mathlib.Core.Path.{refl}
 use Rattle.key.proofs.maker_part.Statement.{statement}
 use Rattle.key.proofs.maker_part.Tie as tie
 
-find-requires : tie.Need-find-requires
-find-requires c κs = search needs
-
-sub-result : tie.Need-sub-result
-sub-result c = search needs
-
-part-result-start : tie.Need-part-result-start
-part-result-start c = search needs
-
 part-result-end : tie.Need-part-result-end
 part-result-end c = rw (c .find .ensures) (shown (c .before .before .args .key .now) (readKey (c .before .before .args .key .now)) refl .maker-within)
 
@@ -22,4 +13,4 @@ returns c = rw (c .before .find .ensures) (shown (c .before .before .before .arg
 
 pub maker-part-spec : {M : Type 1} → statement M
 maker-part-spec =
-    tie.close (tie.spec find-requires sub-result part-result-start part-result-end returns)
+    tie.close (tie.spec (λ c κs. search needs) (λ c. search needs) (λ c. search needs) part-result-end returns)

@@ -25,17 +25,8 @@ past-mark-requires c κs = turn (c .before .before .before .before .args .part .
 shared-slice-read-room : tie.Need-shared-slice-read-room Inv-loop μ-loop
 shared-slice-read-room c = rw (c .before .past-mark .ensures) (turn (c .before .before .before .before .before .before .args .part .now) (plainOf (c .before .before .before .before .before .before .args .part .now)) (c .before .before .before .loop .o) (c .before .before .before .loop .i) (c .before .before .before .before .before .before .pre .0) (omega (arith, c .before .before .loop-test .taken, c .before .before .before .before .before .before .pre .1)) (c .before .before .before .loop .inv .1) .within)
 
-slice-write-room : tie.Need-slice-write-room Inv-loop μ-loop
-slice-write-room c = omega arith
-
 add-i : tie.Need-add-i Inv-loop μ-loop
 add-i c = omega (arith, c .before .past-mark .ensures, turn (c .before .before .before .before .before .before .args .part .now) (plainOf (c .before .before .before .before .before .before .args .part .now)) (c .before .before .before .loop .o) (c .before .before .before .loop .i) (c .before .before .before .before .before .before .pre .0) (omega (arith, c .before .before .loop-test .taken, c .before .before .before .before .before .before .pre .1)) (c .before .before .before .loop .inv .1) .within)
-
-add-o : tie.Need-add-o Inv-loop μ-loop
-add-o c = omega arith
-
-loop-less : tie.Need-loop-less Inv-loop μ-loop
-loop-less c = omega arith
 
 loop-again : tie.Need-loop-again Inv-loop μ-loop
 loop-again c =
@@ -47,9 +38,6 @@ loop-again c =
       plain-laid (plainOf (a .part .now)) (a .room .now) (c .before .before .before .loop .o) (omega (arith, c .before .before .loop-test .taken, c .before .before .before .before .before .before .pre .1)) (c .before .before .before .loop .inv .2) (ap (λ (j : ℕ). getD (a .part .now) j 0) e ∙ t .byte),
       simp length-set (c .before .before .before .loop .inv .3),
     )
-
-same-length : tie.Need-same-length Inv-loop μ-loop
-same-length c = c .before .loop .inv .3
 
 returns : tie.Need-returns Inv-loop μ-loop
 returns c =
@@ -67,10 +55,10 @@ put-plain-spec =
     loop-holds
     past-mark-requires
     shared-slice-read-room
-    slice-write-room
+    (λ c. omega arith)
     add-i
-    add-o
-    loop-less
+    (λ c. omega arith)
+    (λ c. omega arith)
     loop-again
-    same-length
+    (λ c. c .before .loop .inv .3)
     returns)

@@ -10,12 +10,6 @@ returns : tie.Need-returns
 unfolding nameIn
 returns c = (simp (lt-ltb _ _ (c .if1 .taken)), simp (lt-ltb _ _ (c .if1 .taken)))
 
-unescape-short-requires : tie.Need-unescape-short-requires
-unescape-short-requires c κs = search needs
-
-same-length : tie.Need-same-length
-same-length c = search needs
-
 returns-2 : tie.Need-returns-2
 unfolding nameIn
 returns-2 c =
@@ -23,4 +17,4 @@ returns-2 c =
     (simp l (c .before .before .unescape-short .ensures .0), simp l (c .before .before .unescape-short .ensures .1))
 
 pub unescape-spec : {M : Type 1} → statement M
-unescape-spec = tie.close (tie.spec returns unescape-short-requires same-length returns-2)
+unescape-spec = tie.close (tie.spec returns (λ c κs. search needs) (λ c. search needs) returns-2)

@@ -7,12 +7,6 @@ use mathlib.Core.Path.{_∙_, sym}
 use Rattle.pack.proofs.set_up.Statement.{statement}
 use Rattle.pack.proofs.set_up.Tie as tie
 
-refused-requires : tie.Need-refused-requires
-refused-requires c κs = search needs
-
-zero-requires : tie.Need-zero-requires
-zero-requires c κs = search needs
-
 returns : tie.Need-returns
 unfolding setUpOf
 returns c = simp (c .zero .ensures, ← c .before .before .refused .ensures, c .before .if1 .taken)
@@ -25,5 +19,4 @@ unfolding setUpOf
 returns-2 c = simp (c .pack-of .ensures, ← c .before .before .refused .ensures, c .before .if1 .left)
 
 pub set-up-spec : {M : Type 1} → statement M
-set-up-spec =
-    tie.close (tie.spec refused-requires zero-requires returns pack-of-requires returns-2)
+set-up-spec = tie.close (tie.spec (search needs) (search needs) returns pack-of-requires returns-2)

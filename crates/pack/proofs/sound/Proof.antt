@@ -1,19 +1,13 @@
--- `pack::sound` meets its contract: the test's conditions in their order.
+-- `pack::sound` meets its contract: each part by its own test.
 -- Assumes nothing.
-use Rattle.pack.specs.Sound.{soundOf}
+use Rattle.pack.specs.Sound.{packSound, soundOf}
 use borrow.Author.Needs.{needs}
 use Rattle.pack.proofs.sound.Statement.{statement}
 use Rattle.pack.proofs.sound.Tie as tie
 
-milliamp-ms-requires : tie.Need-milliamp-ms-requires
-milliamp-ms-requires c κs = search needs
-
-agree-requires : tie.Need-agree-requires
-agree-requires c κs = search needs
-
 returns : tie.Need-returns
-unfolding soundOf
-returns c = simp (c .agree .ensures, c .before .before .before .before .before .before .before .before .before .before .milliamp-ms .ensures .0)
+unfolding packSound soundOf
+returns c = simp (c .error-sound .ensures, c .before .timers-sound .ensures, c .before .before .sound .ensures, c .before .before .before .tank-sound .ensures, c .before .before .before .before .settings-sound .ensures)
 
 pub sound-spec : {M : Type 1} → statement M
-sound-spec = tie.close (tie.spec milliamp-ms-requires agree-requires returns)
+sound-spec = tie.close (tie.spec (search needs) (search needs) (search needs) (search needs) (search needs) returns)

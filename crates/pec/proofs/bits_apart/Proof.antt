@@ -18,15 +18,6 @@ Inv-loop a b sum₀ at₀ sum at = (at ≤ length a) × (sum + bitsApart (drop a
 abbrev μ-loop : tie.MeasureT-loop
 μ-loop a b sum₀ at₀ sum at = length a - at
 
-loop-holds : tie.Need-loop-holds Inv-loop μ-loop
-loop-holds c = omega arith
-
-shared-slice-read-sum : tie.Need-shared-slice-read-sum Inv-loop μ-loop
-shared-slice-read-sum c = search needs
-
-shared-slice-read-sum-2 : tie.Need-shared-slice-read-sum-2 Inv-loop μ-loop
-shared-slice-read-sum-2 c = search needs
-
 -- a turn adds at most eight
 at-most : (c : tie.After-shared-slice-known2 Inv-loop μ-loop)
     → ones (bitXor (getD (c .before .before .before .before .args .a .now) (c .before .before .before .loop .at) 0) (getD (c .before .before .before .before .args .b .now) (c .before .before .before .loop .at) 0)) ≤ 8
@@ -36,12 +27,6 @@ at-most c =
 
 add-sum : tie.Need-add-sum Inv-loop μ-loop
 add-sum c = omega (arith, at-most c)
-
-add-at : tie.Need-add-at Inv-loop μ-loop
-add-at c = search needs
-
-loop-less : tie.Need-loop-less Inv-loop μ-loop
-loop-less c = search needs
 
 loop-again : tie.Need-loop-again Inv-loop μ-loop
 loop-again c =
@@ -57,11 +42,11 @@ bits-apart-spec =
     (tie.spec
     Inv-loop
     μ-loop
-    loop-holds
-    shared-slice-read-sum
-    shared-slice-read-sum-2
+    (λ c. omega arith)
+    (λ c. search needs)
+    (λ c. search needs)
     add-sum
-    add-at
-    loop-less
+    (λ c. search needs)
+    (λ c. search needs)
     loop-again
     returns)

@@ -15,17 +15,8 @@ returns c = simp (lt-ltb _ _ (c .if1 .taken))
 returns-2 : tie.Need-returns-2
 returns-2 c = simp (le-ltb _ _ (c .before .if1 .left), lt-ltb _ _ (c .if2 .taken))
 
-sub-last : tie.Need-sub-last
-sub-last c = search needs
-
 slice-aggregate-pec : tie.Need-slice-aggregate-pec
 slice-aggregate-pec c = sym (length-take-le _ _ (omega arith))
-
-pec-requires : tie.Need-pec-requires
-pec-requires c κs = search needs
-
-shared-slice-read-t9 : tie.Need-shared-slice-read-t9
-shared-slice-read-t9 c = search needs
 
 returns-3 : tie.Need-returns-3
 unfolding endsInPec
@@ -37,8 +28,8 @@ exchange-check-spec =
     (tie.spec
     returns
     returns-2
-    sub-last
+    (λ c. search needs)
     slice-aggregate-pec
-    pec-requires
-    shared-slice-read-t9
+    (λ c κs. search needs)
+    (λ c. search needs)
     returns-3)

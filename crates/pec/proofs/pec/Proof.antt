@@ -5,12 +5,9 @@ use Rattle.pec.specs.Pec.{pecOf}
 use Rattle.pec.proofs.pec.Statement.{statement}
 use Rattle.pec.proofs.pec.Tie as tie
 
-pec-from-requires : tie.Need-pec-from-requires
-pec-from-requires c κs = search needs
-
 returns : tie.Need-returns
 unfolding pecOf
 returns c = c .pec-from .ensures
 
 pub pec-spec : {M : Type 1} → statement M
-pec-spec = tie.close (tie.spec pec-from-requires returns)
+pec-spec = tie.close (tie.spec (λ c κs. search needs) returns)

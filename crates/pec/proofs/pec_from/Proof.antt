@@ -10,7 +10,7 @@ use lib.ListN.{length, getD, drop}
 use Rattle.pec.specs.Pec.{bitStep, byteStep, pecFrom}
 use Rattle.pec.proofs.Bounds.{byteStep-lt}
 use Rattle.pec.proofs.Loops.{pec-next, pec-end}
-use Rattle.pec.proofs.Table.{list-at}
+use Rattle.pec.proofs.Table.{value-at}
 use Rattle.pec.proofs.pec_from.Statement.{statement}
 use Rattle.pec.proofs.pec_from.Tie as tie
 
@@ -23,18 +23,6 @@ abbrev μ-loop : tie.MeasureT-loop
 loop-holds : tie.Need-loop-holds Inv-loop μ-loop
 loop-holds c = (omega arith, refl, search needs)
 
-shared-slice-read-entry : tie.Need-shared-slice-read-entry Inv-loop μ-loop
-shared-slice-read-entry c = search needs
-
-entry-requires : tie.Need-entry-requires Inv-loop μ-loop
-entry-requires c κs = search needs
-
-add-i : tie.Need-add-i Inv-loop μ-loop
-add-i c = search needs
-
-loop-less : tie.Need-loop-less Inv-loop μ-loop
-loop-less c = search needs
-
 stepped : (c : tie.After-entry Inv-loop μ-loop)
     → let acc = c .before .before .before .before .loop .acc in
     let b = getD (c .before .before .before .before .before .before .args .s .now) (c .before .before .before .before .loop .i) 0 in
@@ -45,7 +33,7 @@ stepped c =
     let b = getD (c .before .before .before .before .before .before .args .s .now) (c .before .before .before .before .loop .i) 0 in
     let acc-fits : acc < 256 = omega arith in
     let b-fits : b < 256 = c .before .shared-slice-known2 .given (c .before .before .before .before .loop .i) .fits in
-    c .entry .ensures ∙ list-at byteStep 256 (bitXor acc b) (xor-lt 8 acc b acc-fits b-fits)
+    c .entry .ensures ∙ value-at byteStep 256 (bitXor acc b) (xor-lt 8 acc b acc-fits b-fits)
 
 loop-again : tie.Need-loop-again Inv-loop μ-loop
 loop-again c =
@@ -62,9 +50,9 @@ pec-from-spec =
     Inv-loop
     μ-loop
     loop-holds
-    shared-slice-read-entry
-    entry-requires
-    add-i
-    loop-less
+    (λ c. search needs)
+    (λ c κs. search needs)
+    (λ c. search needs)
+    (λ c. search needs)
     loop-again
     returns)

@@ -7,28 +7,8 @@ use Rattle.registers.proofs.at_rate_time_to_full.Tie as tie
 returns : tie.Need-returns
 returns c = simp (c .if1 .taken)
 
-rises-requires : tie.Need-rises-requires
-rises-requires c κs = search needs
-
-missing-capacity-requires : tie.Need-missing-capacity-requires
-missing-capacity-requires c κs = search needs
-
-size-requires : tie.Need-size-requires
-size-requires c κs = search needs
-
-minutes-if-requires : tie.Need-minutes-if-requires
-minutes-if-requires c κs = search needs
-
 returns-2 : tie.Need-returns-2
 returns-2 c = simp (c .minutes-if .ensures, c .before .size .ensures .0, c .before .before .missing-capacity .ensures, c .before .before .before .rises .ensures, c .before .before .before .before .if1 .left)
 
 pub at-rate-time-to-full-spec : {M : Type 1} → statement M
-at-rate-time-to-full-spec =
-    tie.close
-    (tie.spec
-    returns
-    rises-requires
-    missing-capacity-requires
-    size-requires
-    minutes-if-requires
-    returns-2)
+at-rate-time-to-full-spec = tie.close (tie.spec returns (search needs) (λ c κs. search needs) (search needs) (search needs) returns-2)

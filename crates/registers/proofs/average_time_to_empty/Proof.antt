@@ -4,15 +4,8 @@ use borrow.Author.Needs.{needs}
 use Rattle.registers.proofs.average_time_to_empty.Statement.{statement}
 use Rattle.registers.proofs.average_time_to_empty.Tie as tie
 
-average-requires : tie.Need-average-requires
-average-requires c κs = search needs
-
-time-to-empty-at-requires : tie.Need-time-to-empty-at-requires
-time-to-empty-at-requires c κs = search needs
-
 returns : tie.Need-returns
 returns c = simp (c .time-to-empty-at .ensures, c .before .average .ensures)
 
 pub average-time-to-empty-spec : {M : Type 1} → statement M
-average-time-to-empty-spec =
-    tie.close (tie.spec average-requires time-to-empty-at-requires returns)
+average-time-to-empty-spec = tie.close (tie.spec (λ c κs. search needs) (λ c κs. search needs) returns)

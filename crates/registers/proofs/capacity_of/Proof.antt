@@ -4,12 +4,6 @@ use borrow.Author.Needs.{needs}
 use Rattle.registers.proofs.capacity_of.Statement.{statement}
 use Rattle.registers.proofs.capacity_of.Tie as tie
 
-power-requires : tie.Need-power-requires
-power-requires c κs = search needs
-
-capped-requires : tie.Need-capped-requires
-capped-requires c κs = search needs
-
 returns : tie.Need-returns
 returns c = simp (c .capped .ensures, c .before .power .ensures, c .before .before .if1 .taken)
 
@@ -17,4 +11,4 @@ returns-2 : tie.Need-returns-2
 returns-2 c = simp (c .if1 .left)
 
 pub capacity-of-spec : {M : Type 1} → statement M
-capacity-of-spec = tie.close (tie.spec power-requires capped-requires returns returns-2)
+capacity-of-spec = tie.close (tie.spec (search needs) (search needs) returns returns-2)

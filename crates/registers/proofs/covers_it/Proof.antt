@@ -4,29 +4,13 @@ use Prim.Native.Nat.{_≤_}
 use borrow.Author.Needs.{needs}
 use native.Mathlib.Nat.{mul-le-mul}
 use native.Mathlib.Omega.{arith}
+use Rattle.pack.proofs.Soundness.{tank-facts}
 use Rattle.registers.proofs.covers_it.Statement.{statement}
 use Rattle.registers.proofs.covers_it.Tie as tie
 
-size-requires : tie.Need-size-requires
-size-requires c κs = search needs
-
-cast-rate : tie.Need-cast-rate
-cast-rate c = search needs
-
-present-discharge-requires : tie.Need-present-discharge-requires
-present-discharge-requires c κs = search needs
-
-cast-drawn : tie.Need-cast-drawn
-cast-drawn c = search needs
-
-product-requires : tie.Need-product-requires
-product-requires c κs = search needs
-
 product-requires-2 : tie.Need-product-requires-2
-product-requires-2 c κs = search needs
-
-mul-result : tie.Need-mul-result
-mul-result c = search needs
+product-requires-2 c κs =
+    omega (arith, tank-facts (c .before .before .before .before .args .p .tank) (c .before .before .before .before .pre) .charge)
 
 mul-result-2 : tie.Need-mul-result-2
 mul-result-2 c =
@@ -40,12 +24,6 @@ returns : tie.Need-returns
 returns c =
     simp (c .product2 .ensures, c .before .product .ensures, c .before .before .if1 .taken, c .before .before .before .present-discharge .ensures .0, c .before .before .before .before .size .ensures .0)
 
-add-result-2 : tie.Need-add-result-2
-add-result-2 c = search needs
-
-mul-result-3 : tie.Need-mul-result-3
-mul-result-3 c = search needs
-
 returns-2 : tie.Need-returns-2
 returns-2 c = simp (c .before .if1 .left, c .before .before .present-discharge .ensures .0, c .before .before .before .size .ensures .0)
 
@@ -53,16 +31,5 @@ pub covers-it-spec : {M : Type 1} → statement M
 covers-it-spec =
     tie.close
     (tie.spec
-    size-requires
-    cast-rate
-    present-discharge-requires
-    cast-drawn
-    product-requires
-    product-requires-2
-    mul-result
-    add-result
-    mul-result-2
-    returns
-    add-result-2
-    mul-result-3
-    returns-2)
+    (search needs) (search needs) (search needs) (search needs) (search needs) product-requires-2 (search needs) add-result mul-result-2 returns
+    (search needs) (search needs) returns-2)

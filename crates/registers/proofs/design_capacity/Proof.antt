@@ -5,12 +5,9 @@ use Rattle.registers.specs.Registers.{designCapacity}
 use Rattle.registers.proofs.design_capacity.Statement.{statement}
 use Rattle.registers.proofs.design_capacity.Tie as tie
 
-capacity-of-requires : tie.Need-capacity-of-requires
-capacity-of-requires c κs = search needs
-
 returns : tie.Need-returns
 unfolding designCapacity
 returns c = c .capacity-of .ensures
 
 pub design-capacity-spec : {M : Type 1} → statement M
-design-capacity-spec = tie.close (tie.spec capacity-of-requires returns)
+design-capacity-spec = tie.close (tie.spec (search needs) returns)

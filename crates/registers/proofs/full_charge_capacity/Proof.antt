@@ -5,12 +5,9 @@ use Rattle.registers.specs.Registers.{fullChargeCapacity}
 use Rattle.registers.proofs.full_charge_capacity.Statement.{statement}
 use Rattle.registers.proofs.full_charge_capacity.Tie as tie
 
-capacity-of-requires : tie.Need-capacity-of-requires
-capacity-of-requires c κs = search needs
-
 returns : tie.Need-returns
 unfolding fullChargeCapacity
 returns c = c .capacity-of .ensures
 
 pub full-charge-capacity-spec : {M : Type 1} → statement M
-full-charge-capacity-spec = tie.close (tie.spec capacity-of-requires returns)
+full-charge-capacity-spec = tie.close (tie.spec (search needs) returns)

@@ -4,9 +4,6 @@ use borrow.Author.Needs.{needs}
 use Rattle.registers.proofs.minutes_if.Statement.{statement}
 use Rattle.registers.proofs.minutes_if.Tie as tie
 
-minutes-requires : tie.Need-minutes-requires
-minutes-requires c κs = search needs
-
 returns : tie.Need-returns
 returns c = simp (c .minutes .ensures, c .before .if1 .taken)
 
@@ -14,4 +11,4 @@ returns-2 : tie.Need-returns-2
 returns-2 c = search needs
 
 pub minutes-if-spec : {M : Type 1} → statement M
-minutes-if-spec = tie.close (tie.spec minutes-requires returns returns-2)
+minutes-if-spec = tie.close (tie.spec (search needs) returns returns-2)

@@ -6,12 +6,6 @@ use Rattle.registers.proofs.Laws.{remaining-at-most-full}
 use Rattle.registers.proofs.missing_capacity.Statement.{statement}
 use Rattle.registers.proofs.missing_capacity.Tie as tie
 
-full-charge-capacity-requires : tie.Need-full-charge-capacity-requires
-full-charge-capacity-requires c κs = search needs
-
-remaining-capacity-requires : tie.Need-remaining-capacity-requires
-remaining-capacity-requires c κs = search needs
-
 sub-result : tie.Need-sub-result
 sub-result c = omega (arith, remaining-at-most-full (c .before .before .args .p) (c .before .before .pre), c .remaining-capacity .ensures, c .before .full-charge-capacity .ensures)
 
@@ -19,6 +13,4 @@ returns : tie.Need-returns
 returns c = search needs
 
 pub missing-capacity-spec : {M : Type 1} → statement M
-missing-capacity-spec =
-    tie.close
-    (tie.spec full-charge-capacity-requires remaining-capacity-requires sub-result returns)
+missing-capacity-spec = tie.close (tie.spec (search needs) (λ c κs. search needs) sub-result returns)

@@ -5,12 +5,6 @@ use native.Mathlib.Omega.{arith}
 use Rattle.registers.proofs.present_discharge.Statement.{statement}
 use Rattle.registers.proofs.present_discharge.Tie as tie
 
-falls-requires : tie.Need-falls-requires
-falls-requires c κs = search needs
-
-size-requires : tie.Need-size-requires
-size-requires c κs = search needs
-
 returns : tie.Need-returns
 returns c = (simp (c .size .ensures .0, ← c .before .before .falls .ensures, c .before .if1 .taken), c .size .ensures .1)
 
@@ -18,4 +12,4 @@ returns-2 : tie.Need-returns-2
 returns-2 c = (simp (← c .before .falls .ensures, c .if1 .left), omega arith)
 
 pub present-discharge-spec : {M : Type 1} → statement M
-present-discharge-spec = tie.close (tie.spec falls-requires size-requires returns returns-2)
+present-discharge-spec = tie.close (tie.spec (search needs) (search needs) returns returns-2)

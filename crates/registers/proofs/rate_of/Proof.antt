@@ -7,15 +7,6 @@ use native.Mathlib.Omega.{arith}
 use Rattle.registers.proofs.rate_of.Statement.{statement}
 use Rattle.registers.proofs.rate_of.Tie as tie
 
-size-requires : tie.Need-size-requires
-size-requires c κs = search needs
-
-cast-power : tie.Need-cast-power
-cast-power c = search needs
-
-power-requires : tie.Need-power-requires
-power-requires c κs = search needs
-
 cast-result : tie.Need-cast-result
 cast-result c =
     let low : c .before .before .before .args .p .latest .voltage ≤ 65535 = omega arith in
@@ -28,5 +19,4 @@ returns-2 : tie.Need-returns-2
 returns-2 c = simp (c .if1 .left, c .before .size .ensures .0)
 
 pub rate-of-spec : {M : Type 1} → statement M
-rate-of-spec =
-    tie.close (tie.spec size-requires cast-power power-requires cast-result returns returns-2)
+rate-of-spec = tie.close (tie.spec (search needs) (search needs) (search needs) cast-result returns returns-2)

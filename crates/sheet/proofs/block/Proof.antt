@@ -5,41 +5,14 @@ use Rattle.sheet.proofs.Names.{Inside, found-inside, bad-service, bad-f
 use Rattle.sheet.proofs.block.Statement.{statement}
 use Rattle.sheet.proofs.block.Tie as tie
 
-is-sheet-requires : tie.Need-is-sheet-requires
-is-sheet-requires c κs = search needs
-
-sub-result : tie.Need-sub-result
-sub-result c = search needs
-
-part-result-start : tie.Need-part-result-start
-part-result-start c = search needs
-
-part-result-end : tie.Need-part-result-end
-part-result-end c = search needs
-
 returns : tie.Need-returns
 returns c = shown _ _ _ _ _ _ (bad-service _ _ _ (sym (c .before .before .is-sheet .ensures) ∙ not-true _ (c .before .if1 .taken)))
-
-is-sheet-requires-2 : tie.Need-is-sheet-requires-2
-is-sheet-requires-2 c κs = search needs
-
-sub-result-2 : tie.Need-sub-result-2
-sub-result-2 c = search needs
-
-part-result-start-2 : tie.Need-part-result-start-2
-part-result-start-2 c = search needs
-
-part-result-end-2 : tie.Need-part-result-end-2
-part-result-end-2 c = search needs
 
 returns-2 : tie.Need-returns-2
 returns-2 c = shown _ _ _ _ _ _ (bad-factory _ _ _ (sym (c .before .before .before .before .is-sheet .ensures) ∙ not-false _ (c .before .before .before .if1 .left)) (sym (c .before .before .is-sheet2 .ensures) ∙ not-true _ (c .before .if2 .taken)))
 
 find-requires : tie.Need-find-requires
 find-requires c κs = (sym (c .before .before .before .is-sheet .ensures) ∙ not-false _ (c .before .before .if1 .left))
-
-enum-known-start : tie.Need-enum-known-start
-enum-known-start c = search needs
 
 inside : (c : tie.After-known-told) → Inside (c .before .before .before .before .before .before .before .before .before .before .args .service .now) (c .before .start .given .0 .0) (c .before .start .given .0 .1 .0)
 inside c = found-inside _ _ _ _ (sym (c .before .before .before .before .before .before .before .is-sheet .ensures) ∙ not-false _ (c .before .before .before .before .before .before .if1 .left)) (sym (c .before .before .before .find .ensures) ∙ c .before .start .given .1)
@@ -59,9 +32,6 @@ enum-told c = search needs
 find-requires-2 : tie.Need-find-requires-2
 find-requires-2 c κs = (sym (c .before .before .before .before .is-sheet2 .ensures) ∙ not-false _ (c .before .before .before .if2 .left))
 
-enum-known-start-2 : tie.Need-enum-known-start-2
-enum-known-start-2 c = search needs
-
 inside-2 : (c : tie.After-known-told2) → Inside (c .before .before .before .before .before .before .before .before .before .before .before .before .before .args .factory .now) (c .before .start2 .given .0 .0) (c .before .start2 .given .0 .1 .0)
 inside-2 c = found-inside _ _ _ _ (sym (c .before .before .before .before .before .before .before .before .is-sheet2 .ensures) ∙ not-false _ (c .before .before .before .before .before .before .before .if2 .left)) (sym (c .before .before .before .find2 .ensures) ∙ c .before .start2 .given .1)
 
@@ -73,18 +43,6 @@ part-result-start-4 c = inside-2 c .rises
 
 part-result-end-4 : tie.Need-part-result-end-4
 part-result-end-4 c = inside-2 c .ends
-
-enum-told-2 : tie.Need-enum-told-2
-enum-told-2 c = search needs
-
-sub-result-5 : tie.Need-sub-result-5
-sub-result-5 c = search needs
-
-part-result-start-5 : tie.Need-part-result-start-5
-part-result-start-5 c = search needs
-
-part-result-end-5 : tie.Need-part-result-end-5
-part-result-end-5 c = search needs
 
 returns-3 : tie.Need-returns-3
 returns-3 c = shown _ _ _ _ _ _ (in-service _ _ _ (sym (c .before .before .before .before .before .before .before .before .is-sheet .ensures) ∙ not-false _ (c .before .before .before .before .before .before .before .if1 .left)) (sym (c .before .before .before .before .before .before .is-sheet2 .ensures) ∙ not-false _ (c .before .before .before .before .before .if2 .left)) _ _ (sym (c .before .before .before .before .find .ensures) ∙ c .before .before .start .given .1))
@@ -99,31 +57,31 @@ pub block-spec : {M : Type 1} → statement M
 block-spec =
     tie.close
     (tie.spec
-    is-sheet-requires
-    sub-result
-    part-result-start
-    part-result-end
+    (λ c κs. search needs)
+    (λ c. search needs)
+    (λ c. search needs)
+    (λ c. search needs)
     returns
-    is-sheet-requires-2
-    sub-result-2
-    part-result-start-2
-    part-result-end-2
+    (λ c κs. search needs)
+    (λ c. search needs)
+    (λ c. search needs)
+    (λ c. search needs)
     returns-2
     find-requires
-    enum-known-start
+    (λ c. search needs)
     sub-result-3
     part-result-start-3
     part-result-end-3
     enum-told
     find-requires-2
-    enum-known-start-2
+    (λ c. search needs)
     sub-result-4
     part-result-start-4
     part-result-end-4
-    enum-told-2
-    sub-result-5
-    part-result-start-5
-    part-result-end-5
+    (λ c. search needs)
+    (λ c. search needs)
+    (λ c. search needs)
+    (λ c. search needs)
     returns-3
     returns-4
     returns-5)

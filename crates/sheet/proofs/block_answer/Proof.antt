@@ -5,12 +5,6 @@ use borrow.Author.Needs.{needs}
 use Rattle.sheet.proofs.block_answer.Statement.{statement}
 use Rattle.sheet.proofs.block_answer.Tie as tie
 
-is-sheet-requires : tie.Need-is-sheet-requires
-is-sheet-requires c κs = search needs
-
-is-sheet-requires-2 : tie.Need-is-sheet-requires-2
-is-sheet-requires-2 c κs = search needs
-
 returns : tie.Need-returns
 returns c = sym (ap (λ (b : Bool). cond b 0 9) (c .if1 .taken)) ∙ answered _ _ _ _ (c .before .before .is-sheet .ensures) (c .before .is-sheet2 .ensures)
 
@@ -18,4 +12,4 @@ returns-2 : tie.Need-returns-2
 returns-2 c = sym (ap (λ (b : Bool). cond b 0 9) (c .if1 .left)) ∙ answered _ _ _ _ (c .before .before .is-sheet .ensures) (c .before .is-sheet2 .ensures)
 
 pub block-answer-spec : {M : Type 1} → statement M
-block-answer-spec = tie.close (tie.spec is-sheet-requires is-sheet-requires-2 returns returns-2)
+block-answer-spec = tie.close (tie.spec (λ c κs. search needs) (λ c κs. search needs) returns returns-2)

@@ -1,11 +1,12 @@
-use mathlib.Core.Path.{_≡_, refl}
+use mathlib.Core.Path.{_≡_, refl, _∙_}
 use Prim.Native.Nat.{_≤_, _+_, _-_, _*_}
 use native.Mathlib.Omega.{arith}
 use borrow.Author.Needs.{needs}
 use lib.ListN.{length}
 use Rattle.sheet.specs.Block.{findRow, findIn}
+use Rattle.sheet.specs.Sheet.{old}
 use Rattle.sheet.proofs.Rows.{contents}
-use Rattle.sheet.proofs.Names.{hit, miss, no-row, find-start}
+use Rattle.sheet.proofs.Names.{first-is, hit, miss, no-row, find-start}
 use Rattle.sheet.proofs.find.Statement.{statement}
 use Rattle.sheet.proofs.find.Tie as tie
 
@@ -16,60 +17,19 @@ abbrev μ-loop : tie.MeasureT-loop
 μ-loop sheet tag n i₀ at₀ i at = n - i
 
 shared-slice-read-wide : tie.Need-shared-slice-read-wide Inv-loop μ-loop
-shared-slice-read-wide c = contents _ (c .before .before .pre) .some
-
-wide-requires : tie.Need-wide-requires Inv-loop μ-loop
-wide-requires c κs = search needs
+shared-slice-read-wide c = contents old _ (c .before .before .pre) .some
 
 loop-holds : tie.Need-loop-holds Inv-loop μ-loop
 loop-holds c =
-    let k = contents _ (c .before .before .before .pre) in
-    (omega arith, refl, find-start _ _ _ (c .wide .ensures .0), omega arith)
-
-shared-slice-read-if1 : tie.Need-shared-slice-read-if1 Inv-loop μ-loop
-shared-slice-read-if1 c = omega arith
-
-add-offset : tie.Need-add-offset Inv-loop μ-loop
-add-offset c = omega arith
-
-shared-slice-read-offset : tie.Need-shared-slice-read-offset Inv-loop μ-loop
-shared-slice-read-offset c = omega arith
-
-add-offset-2 : tie.Need-add-offset-2 Inv-loop μ-loop
-add-offset-2 c = omega arith
-
-shared-slice-read-offset-2 : tie.Need-shared-slice-read-offset-2 Inv-loop μ-loop
-shared-slice-read-offset-2 c = omega arith
-
-offset-requires : tie.Need-offset-requires Inv-loop μ-loop
-offset-requires c κs = search needs
-
-add-wide : tie.Need-add-wide Inv-loop μ-loop
-add-wide c = omega arith
-
-shared-slice-read-wide-2 : tie.Need-shared-slice-read-wide-2 Inv-loop μ-loop
-shared-slice-read-wide-2 c = omega arith
-
-wide-requires-2 : tie.Need-wide-requires-2 Inv-loop μ-loop
-wide-requires-2 c κs = search needs
-
-add-t19 : tie.Need-add-t19 Inv-loop μ-loop
-add-t19 c = omega arith
+    let ok = c .before .before .before .pre in
+    let n = c .wide .ensures .0 ∙ first-is _ ok in
+    (omega arith, refl, find-start _ _ _ n, omega (arith, n, contents old _ ok .fits))
 
 returns : tie.Need-returns Inv-loop μ-loop
 returns c =
     let at-loop = c .before .before .before .before .before .before .before .before in
     let entry = at-loop .before .before .before .before in
     hit (entry .args .sheet .now) (entry .args .tag) _ _ _ (at-loop .loop .inv .2) _ _ (c .before .before .before .before .before .before .before .loop-test .taken) (c .before .before .before .before .before .if1 .taken) (c .before .before .offset .ensures .0) (omega arith)
-
-add-at : tie.Need-add-at Inv-loop μ-loop
-add-at c = omega arith
-
-add-i : tie.Need-add-i Inv-loop μ-loop
-add-i c = omega arith
-
-loop-less : tie.Need-loop-less Inv-loop μ-loop
-loop-less c = omega arith
 
 loop-again : tie.Need-loop-again Inv-loop μ-loop
 loop-again c = (omega arith, omega arith, miss _ _ _ _ _ (c .before .before .before .loop .inv .2) (c .before .before .loop-test .taken) (c .if1 .left), c .before .before .before .loop .inv .3)
@@ -84,21 +44,21 @@ find-spec =
     Inv-loop
     μ-loop
     shared-slice-read-wide
-    wide-requires
+    (λ c κs. search needs)
     loop-holds
-    shared-slice-read-if1
-    add-offset
-    shared-slice-read-offset
-    add-offset-2
-    shared-slice-read-offset-2
-    offset-requires
-    add-wide
-    shared-slice-read-wide-2
-    wide-requires-2
-    add-t19
+    (λ c. omega arith)
+    (λ c. omega arith)
+    (λ c. omega arith)
+    (λ c. omega arith)
+    (λ c. omega arith)
+    (λ c κs. search needs)
+    (λ c. omega arith)
+    (λ c. omega arith)
+    (λ c κs. search needs)
+    (λ c. omega arith)
     returns
-    add-at
-    add-i
-    loop-less
+    (λ c. omega arith)
+    (λ c. omega arith)
+    (λ c. omega arith)
     loop-again
     returns-2)

@@ -7,9 +7,6 @@ use Rattle.sheet.proofs.Lists.{listed-is}
 use Rattle.sheet.proofs.listed.Statement.{statement}
 use Rattle.sheet.proofs.listed.Tie as tie
 
-is-sheet-requires : tie.Need-is-sheet-requires
-is-sheet-requires c κs = search needs
-
 find-requires : tie.Need-find-requires
 find-requires c κs = sym (c .before .is-sheet .ensures) ∙ c .if1 .taken
 
@@ -21,4 +18,4 @@ unfolding listedIn
 returns-2 c = simp (sym (c .before .is-sheet .ensures) ∙ c .if1 .left)
 
 pub listed-spec : {M : Type 1} → statement M
-listed-spec = tie.close (tie.spec is-sheet-requires find-requires returns returns-2)
+listed-spec = tie.close (tie.spec (λ c κs. search needs) find-requires returns returns-2)

@@ -10,17 +10,11 @@ use Rattle.snatchblock.specs.Packed.{blockNumber}
 use Rattle.snatchblock.proofs.snatchblock_block.Statement.{statement}
 use Rattle.snatchblock.proofs.snatchblock_block.Tie as tie
 
-is-sheet-requires : tie.Need-is-sheet-requires
-is-sheet-requires c κs = search needs
-
 returns : tie.Need-returns
 unfolding blockNumber
 returns c =
     let bad = sym (c .before .is-sheet .ensures) ∙ not-true _ (c .if1 .taken) in
     by-part _ _ _ _ _ (bad-service _ _ bad) (names.bad-service _ _ _ bad) refl
-
-is-sheet-requires-2 : tie.Need-is-sheet-requires-2
-is-sheet-requires-2 c κs = search needs
 
 returns-2 : tie.Need-returns-2
 unfolding blockNumber
@@ -28,12 +22,6 @@ returns-2 c =
     let fine = sym (c .before .before .before .is-sheet .ensures) ∙ not-false _ (c .before .before .if1 .left) in
     let bad = sym (c .before .is-sheet2 .ensures) ∙ not-true _ (c .if2 .taken) in
     by-part _ _ _ _ _ (bad-factory _ _ fine bad) (names.bad-factory _ _ _ fine bad) refl
-
-listed-requires : tie.Need-listed-requires
-listed-requires c κs = search needs
-
-enum-known-start : tie.Need-enum-known-start
-enum-known-start c = search needs
 
 place-up-requires : tie.Need-place-up-requires
 place-up-requires c κs =
@@ -43,22 +31,10 @@ place-up-requires c κs =
 enum-told : tie.Need-enum-told
 enum-told c = search needs
 
-listed-requires-2 : tie.Need-listed-requires-2
-listed-requires-2 c κs = search needs
-
-enum-known-start-2 : tie.Need-enum-known-start-2
-enum-known-start-2 c = search needs
-
 place-up-requires-2 : tie.Need-place-up-requires-2
 place-up-requires-2 c κs =
     let h = sym (c .before .before .before .before .before .before .before .before .is-sheet2 .ensures) ∙ not-false _ (c .before .before .before .before .before .before .before .if2 .left) in
     found-most _ _ _ _ h (sym (c .before .before .before .listed2 .ensures ∙ listed-is _ _ h) ∙ c .before .start2 .given .1)
-
-enum-told-2 : tie.Need-enum-told-2
-enum-told-2 c = search needs
-
-place-up-requires-3 : tie.Need-place-up-requires-3
-place-up-requires-3 c κs = search needs
 
 returns-3 : tie.Need-returns-3
 unfolding blockNumber
@@ -84,4 +60,4 @@ returns-5 c =
     by-part _ _ _ _ _ (good _ _ s f) (names.in-neither _ _ _ s f none (sym (c .before .before .before .listed2 .ensures ∙ listed-is _ _ f) ∙ c .before .enum-told2 .given .1)) (c .place-up3 .ensures)
 
 pub snatchblock-block-spec : {M : Type 1} → statement M
-snatchblock-block-spec = tie.close (tie.spec is-sheet-requires returns is-sheet-requires-2 returns-2 listed-requires enum-known-start place-up-requires enum-told listed-requires-2 enum-known-start-2 place-up-requires-2 enum-told-2 place-up-requires-3 returns-3 returns-4 returns-5)
+snatchblock-block-spec = tie.close (tie.spec (λ c κs. search needs) returns (λ c κs. search needs) returns-2 (λ c κs. search needs) (λ c. search needs) place-up-requires enum-told (λ c κs. search needs) (λ c. search needs) place-up-requires-2 (λ c. search needs) (λ c κs. search needs) returns-3 returns-4 returns-5)

@@ -6,29 +6,17 @@ use mathlib.Core.List.{List}
 use mathlib.Core.Path.{ap}
 use Prim.Native.Nat.{ℕ}
 use lib.ListN.{length}
-use Rattle.key.specs.declared.Read.{Read}
 use Rattle.snatchblock.proofs.Parts.{read-most}
 use Rattle.snatchblock.proofs.snatchblock_read_key.Statement.{statement}
 use Rattle.snatchblock.proofs.snatchblock_read_key.Tie as tie
 
-read-key-requires : tie.Need-read-key-requires
-read-key-requires c κs = search needs
-
-maker-part-requires : tie.Need-maker-part-requires
-maker-part-requires c κs = search needs
-
-device-part-requires : tie.Need-device-part-requires
-device-part-requires c κs = search needs
-
 key-up-requires : tie.Need-key-up-requires
 key-up-requires c κs =
-    let most = read-most (c .before .before .before .before .args .key .now) in (
-      omega (arith, ap (λ (r : Read). r .answer) (c .before .before .read-key .ensures), most .0),
-      (omega (arith, ap (λ (l : List ℕ). length l) (c .before .maker-part .ensures), most .1 .0), omega (arith, ap (λ (l : List ℕ). length l) (c .device-part .ensures), most .1 .1)),
-    )
+    let most = read-most (c .before .before .before .before .args .key .now) in
+    (omega (arith, ap (λ (l : List ℕ). length l) (c .before .maker-part .ensures), most .0), omega (arith, ap (λ (l : List ℕ). length l) (c .device-part .ensures), most .1))
 
 returns : tie.Need-returns
 returns c = rw (c .key-up .ensures, c .before .device-part .ensures, c .before .before .maker-part .ensures, c .before .before .before .read-key .ensures)
 
 pub snatchblock-read-key-spec : {M : Type 1} → statement M
-snatchblock-read-key-spec = tie.close (tie.spec read-key-requires maker-part-requires device-part-requires key-up-requires returns)
+snatchblock-read-key-spec = tie.close (tie.spec (λ c κs. search needs) (λ c κs. search needs) (λ c κs. search needs) key-up-requires returns)

@@ -4,7 +4,7 @@ use borrow.Author.Needs.{needs}
 use native.Mathlib.Omega.{arith}
 use mathlib.Core.Path.{sym, ap, _∙_}
 use lib.ListN.{length}
-use Rattle.area.proofs.Tests.{facts}
+use Rattle.area.proofs.Whole.{area-size}
 use Rattle.snatchblock.proofs.Areas.{an-area, same-sample, sample-count, sample-most, sample-none, sample-done}
 use mir.Syntax.{w16}
 use mir.Val.{toZ, ofZ}
@@ -13,51 +13,33 @@ use Rattle.snatchblock.specs.Calls.{stays, sampleWith}
 use Rattle.snatchblock.proofs.snatchblock_sample.Statement.{statement}
 use Rattle.snatchblock.proofs.snatchblock_sample.Tie as tie
 
-load-requires : tie.Need-load-requires
-load-requires c κs = search needs
-
-same-length : tie.Need-same-length
-same-length c = search needs
-
 returns : tie.Need-returns
 returns c =
     let a = c .before .before .before .before .before .before .args in
     sample-none (a .area .now) (sampleWith (a .voltage) (a .current) (a .temperature) (a .counter)) (a .room .now) (c .before .before .load .ensures .0) (c .if1 .taken)
-
-sample-requires : tie.Need-sample-requires
-sample-requires c κs = search needs
 
 keep-requires : tie.Need-keep-requires
 keep-requires c κs =
     let a = c .before .before .before .before .before .before .before .before .before .before .before .args in
     let out = c .before .before .before .sample .ensures .0 in
     let held = c .before .before .before .before .before .before .before .load in (
-      facts (a .area .now) (an-area (a .area .now) (held .ensures .0) (c .before .before .before .before .before .if1 .left) .0) .size,
+      area-size (a .area .now) (an-area (a .area .now) (held .ensures .0) (c .before .before .before .before .before .if1 .left) .0),
       λ h.
           let count = sample-count (held .result .state) (sampleWith (a .voltage) (toZ w16 (ofZ w16 (a .current))) (a .temperature) (a .counter)) (length (a .room .now)) (sym (ap (λ (q : Sampled). stays (q .answer)) out) ∙ h) in
-          omega (arith, ap (λ (q : Sampled). q .state .pack .kept .count) out, count),
+          omega (arith, ap (λ (q : Sampled). q .state .pack .recent .count) out, count),
     )
-
-number-requires : tie.Need-number-requires
-number-requires c κs = search needs
 
 pack-up-requires : tie.Need-pack-up-requires
 pack-up-requires c κs =
-    let a = c .before .before .before .before .before .before .before .before .before .before .before .before .before .before .before .args in
-    let e = ap (λ (q : Sampled). q .length) (c .before .before .before .before .before .before .before .sample .ensures .0) in
-    (omega (arith, c .number .ensures .1), omega (arith, e, sample-most (c .before .before .before .before .before .before .before .before .before .before .before .load .result .state) (sampleWith (a .voltage) (toZ w16 (ofZ w16 (a .current))) (a .temperature) (a .counter)) (length (a .room .now))))
-
-same-length-2 : tie.Need-same-length-2
-same-length-2 c = search needs
-
-same-length-3 : tie.Need-same-length-3
-same-length-3 c = search needs
+    let a = c .before .before .before .before .before .before .before .before .before .before .before .before .before .before .args in
+    let e = ap (λ (q : Sampled). q .length) (c .before .before .before .before .before .before .sample .ensures .0) in
+    omega (arith, e, sample-most (c .before .before .before .before .before .before .before .before .before .before .load .result .state) (sampleWith (a .voltage) (toZ w16 (ofZ w16 (a .current))) (a .temperature) (a .counter)) (length (a .room .now)))
 
 returns-2 : tie.Need-returns-2
 returns-2 c =
-    let a = c .before .before .before .before .before .before .before .before .before .before .before .before .before .before .before .before .args in
-    let out = c .before .before .before .before .before .before .before .before .sample .ensures in
-    sample-done (a .area .now) (sampleWith (a .voltage) (a .current) (a .temperature) (a .counter)) (a .room .now) (c .before .before .before .before .before .before .before .before .before .before .before .before .load .ensures .0) (c .before .before .before .before .before .before .before .before .before .before .if1 .left) (same-sample (a .voltage) (a .temperature) (a .counter) (c .before .before .before .before .before .before .before .before .before .before .before .before .before .before .before .before .fits .current)) (out .0) (out .1) (c .before .before .before .before .keep .ensures) (c .before .number .ensures .0) (c .pack-up .ensures)
+    let a = c .before .before .before .before .before .before .before .before .before .before .before .before .before .before .before .args in
+    let out = c .before .before .before .before .before .before .before .sample .ensures in
+    sample-done (a .area .now) (sampleWith (a .voltage) (a .current) (a .temperature) (a .counter)) (a .room .now) (c .before .before .before .before .before .before .before .before .before .before .before .load .ensures .0) (c .before .before .before .before .before .before .before .before .before .if1 .left) (same-sample (a .voltage) (a .temperature) (a .counter) (c .before .before .before .before .before .before .before .before .before .before .before .before .before .before .before .fits .current)) (out .0) (out .1) (c .before .before .before .keep .ensures) (c .pack-up .ensures)
 
 pub snatchblock-sample-spec : {M : Type 1} → statement M
-snatchblock-sample-spec = tie.close (tie.spec load-requires same-length returns sample-requires keep-requires number-requires pack-up-requires same-length-2 same-length-3 returns-2)
+snatchblock-sample-spec = tie.close (tie.spec (λ c κs. search needs) (λ c. search needs) returns (λ c κs. search needs) keep-requires pack-up-requires (λ c. search needs) (λ c. search needs) returns-2)

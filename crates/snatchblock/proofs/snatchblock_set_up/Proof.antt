@@ -12,26 +12,11 @@ use Rattle.snatchblock.proofs.snatchblock_set_up.Tie as tie
 returns : tie.Need-returns
 returns c = let other = ne-eqb _ _ (c .if1 .taken) in (rw other, rw other)
 
-set-up-requires : tie.Need-set-up-requires
-set-up-requires c κs = search needs
-
-number-requires : tie.Need-number-requires
-number-requires c κs = search needs
-
-pack-up-requires : tie.Need-pack-up-requires
-pack-up-requires c κs = search needs
-
 returns-2 : tie.Need-returns-2
 returns-2 c =
-    let a = c .before .before .before .before .before .before .before .args in
-    let same = same-sample (a .voltage) (a .temperature) (a .counter) (c .before .before .before .before .before .before .before .fits .current) in
-    start-refused (a .area .now) (c .before .before .before .before .before .if1 .left) (c .before .before .before .before .set-up .ensures ∙ ap (setUpOf (setupWith (a .DesignCapacity) (a .full) (a .remaining) (a .DesignVoltage) (a .MaxError) (a .CycleCount) (a .ManufactureDate) (a .SerialNumber) (a .ChargingCurrent) (a .ChargingVoltage) (a .TemperatureLimit) (a .DischargeLimit))) same) (c .before .before .if2 .taken) (c .before .number .ensures .0) (c .pack-up .ensures)
-
-store-requires : tie.Need-store-requires
-store-requires c κs = search needs
-
-same-length : tie.Need-same-length
-same-length c = search needs
+    let a = c .before .before .before .before .before .before .args in
+    let same = same-sample (a .voltage) (a .temperature) (a .counter) (c .before .before .before .before .before .before .fits .current) in
+    start-refused (a .area .now) (c .before .before .before .before .if1 .left) (c .before .before .before .set-up .ensures ∙ ap (setUpOf (setupWith (a .DesignCapacity) (a .full) (a .remaining) (a .DesignVoltage) (a .MaxError) (a .CycleCount) (a .ManufactureDate) (a .SerialNumber) (a .ChargingCurrent) (a .ChargingVoltage) (a .TemperatureLimit) (a .DischargeLimit))) same) (c .before .if2 .taken) (c .pack-up .ensures)
 
 returns-3 : tie.Need-returns-3
 returns-3 c =
@@ -40,4 +25,4 @@ returns-3 c =
     start-served (a .area .now) (setupWith (a .DesignCapacity) (a .full) (a .remaining) (a .DesignVoltage) (a .MaxError) (a .CycleCount) (a .ManufactureDate) (a .SerialNumber) (a .ChargingCurrent) (a .ChargingVoltage) (a .TemperatureLimit) (a .DischargeLimit)) (sampleWith (a .voltage) (a .current) (a .temperature) (a .counter)) (c .before .before .before .before .before .before .before .if1 .left) (c .before .before .before .before .before .before .set-up .ensures ∙ ap (setUpOf (setupWith (a .DesignCapacity) (a .full) (a .remaining) (a .DesignVoltage) (a .MaxError) (a .CycleCount) (a .ManufactureDate) (a .SerialNumber) (a .ChargingCurrent) (a .ChargingVoltage) (a .TemperatureLimit) (a .DischargeLimit))) same) (c .before .before .before .before .if2 .left) (c .before .before .store .ensures .1 .0)
 
 pub snatchblock-set-up-spec : {M : Type 1} → statement M
-snatchblock-set-up-spec = tie.close (tie.spec returns set-up-requires number-requires pack-up-requires returns-2 store-requires same-length returns-3)
+snatchblock-set-up-spec = tie.close (tie.spec returns (λ c κs. search needs) (λ c κs. search needs) returns-2 (λ c κs. search needs) (λ c. search needs) returns-3)

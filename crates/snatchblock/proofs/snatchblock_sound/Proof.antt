@@ -5,14 +5,8 @@ use Rattle.snatchblock.proofs.Areas.{no-area, an-area}
 use Rattle.snatchblock.proofs.snatchblock_sound.Statement.{statement}
 use Rattle.snatchblock.proofs.snatchblock_sound.Tie as tie
 
-load-requires : tie.Need-load-requires
-load-requires c κs = search needs
-
 returns : tie.Need-returns
 returns c = rw (no-area (c .before .before .before .before .args .area .now) (c .before .before .load .ensures .0) (c .if1 .taken))
-
-sound-requires : tie.Need-sound-requires
-sound-requires c κs = search needs
 
 returns-2 : tie.Need-returns-2
 returns-2 c =
@@ -20,4 +14,4 @@ returns-2 c =
     rw (t .0, c .sound .ensures, t .1)
 
 pub snatchblock-sound-spec : {M : Type 1} → statement M
-snatchblock-sound-spec = tie.close (tie.spec load-requires returns sound-requires returns-2)
+snatchblock-sound-spec = tie.close (tie.spec (λ c κs. search needs) returns (λ c κs. search needs) returns-2)

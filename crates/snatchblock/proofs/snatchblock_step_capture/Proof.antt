@@ -2,17 +2,10 @@
 -- Assumes nothing.
 use borrow.Author.Needs.{needs}
 use mathlib.Core.Path.{ap, sym, _∙_}
-use Rattle.capture.specs.declared.Step.{Step}
 use Rattle.snatchblock.specs.Packed.{stepNumber}
 use Rattle.snatchblock.proofs.Parts.{step-most}
 use Rattle.snatchblock.proofs.snatchblock_step_capture.Statement.{statement}
 use Rattle.snatchblock.proofs.snatchblock_step_capture.Tie as tie
-
-step-at-requires : tie.Need-step-at-requires
-step-at-requires c κs = search needs
-
-enum-known-mark : tie.Need-enum-known-mark
-enum-known-mark c = search needs
 
 row-up-requires : tie.Need-row-up-requires
 row-up-requires c κs =
@@ -21,9 +14,6 @@ row-up-requires c κs =
 
 enum-told : tie.Need-enum-told
 enum-told c = search needs
-
-enum-told-2 : tie.Need-enum-told-2
-enum-told-2 c = search needs
 
 returns : tie.Need-returns
 returns c =
@@ -36,4 +26,4 @@ returns-3 : tie.Need-returns-3
 returns-3 c = ap (stepNumber (c .before .before .before .before .args .place)) (sym (c .enum-told2 .given .1) ∙ c .before .before .step-at .ensures)
 
 pub snatchblock-step-capture-spec : {M : Type 1} → statement M
-snatchblock-step-capture-spec = tie.close (tie.spec step-at-requires enum-known-mark row-up-requires enum-told enum-told-2 returns returns-2 returns-3)
+snatchblock-step-capture-spec = tie.close (tie.spec (λ c κs. search needs) (λ c. search needs) row-up-requires enum-told (λ c. search needs) returns returns-2 returns-3)

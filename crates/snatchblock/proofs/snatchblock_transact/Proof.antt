@@ -4,58 +4,40 @@ use borrow.Author.Needs.{needs}
 use native.Mathlib.Omega.{arith}
 use mathlib.Core.Path.{sym, ap, _∙_}
 use lib.ListN.{length}
-use Rattle.area.proofs.Tests.{facts}
+use Rattle.area.proofs.Whole.{area-size}
 use Rattle.snatchblock.proofs.Areas.{an-area, transact-count, transact-most, transact-none, transact-done}
 use Rattle.bus.specs.declared.Transacted.{Transacted}
 use Rattle.snatchblock.specs.Calls.{stays}
 use Rattle.snatchblock.proofs.snatchblock_transact.Statement.{statement}
 use Rattle.snatchblock.proofs.snatchblock_transact.Tie as tie
 
-load-requires : tie.Need-load-requires
-load-requires c κs = search needs
-
-same-length : tie.Need-same-length
-same-length c = search needs
-
 returns : tie.Need-returns
 returns c =
     let a = c .before .before .before .before .before .before .before .before .before .args in
     transact-none (a .area .now) (a .service .now) (a .factory .now) (a .read) (a .bytes .now) (a .room .now) (c .before .before .load .ensures .0) (c .if1 .taken)
-
-transact-requires : tie.Need-transact-requires
-transact-requires c κs = search needs
 
 keep-requires : tie.Need-keep-requires
 keep-requires c κs =
     let a = c .before .before .before .before .before .before .before .before .before .before .before .before .before .before .args in
     let out = c .before .before .before .transact .ensures .0 in
     let held = c .before .before .before .before .before .before .before .load in (
-      facts (a .area .now) (an-area (a .area .now) (held .ensures .0) (c .before .before .before .before .before .if1 .left) .0) .size,
+      area-size (a .area .now) (an-area (a .area .now) (held .ensures .0) (c .before .before .before .before .before .if1 .left) .0),
       λ h.
           let count = transact-count (held .result .state) (a .service .now) (a .factory .now) (a .read) (a .bytes .now) (length (a .room .now)) (sym (ap (λ (q : Transacted). stays (q .answer)) out) ∙ h) in
-          omega (arith, ap (λ (q : Transacted). q .state .pack .kept .count) out, count),
+          omega (arith, ap (λ (q : Transacted). q .state .pack .recent .count) out, count),
     )
-
-number-requires : tie.Need-number-requires
-number-requires c κs = search needs
 
 pack-up-requires : tie.Need-pack-up-requires
 pack-up-requires c κs =
-    let a = c .before .before .before .before .before .before .before .before .before .before .before .before .before .before .before .before .before .before .args in
-    let e = ap (λ (q : Transacted). q .length) (c .before .before .before .before .before .before .before .transact .ensures .0) in
-    (omega (arith, c .number .ensures .1), omega (arith, e, transact-most (c .before .before .before .before .before .before .before .before .before .before .before .load .result .state) (a .service .now) (a .factory .now) (a .read) (a .bytes .now) (length (a .room .now))))
-
-same-length-2 : tie.Need-same-length-2
-same-length-2 c = search needs
-
-same-length-3 : tie.Need-same-length-3
-same-length-3 c = search needs
+    let a = c .before .before .before .before .before .before .before .before .before .before .before .before .before .before .before .before .before .args in
+    let e = ap (λ (q : Transacted). q .length) (c .before .before .before .before .before .before .transact .ensures .0) in
+    omega (arith, e, transact-most (c .before .before .before .before .before .before .before .before .before .before .load .result .state) (a .service .now) (a .factory .now) (a .read) (a .bytes .now) (length (a .room .now)))
 
 returns-2 : tie.Need-returns-2
 returns-2 c =
-    let a = c .before .before .before .before .before .before .before .before .before .before .before .before .before .before .before .before .before .before .before .args in
-    let out = c .before .before .before .before .before .before .before .before .transact .ensures in
-    transact-done (a .area .now) (a .service .now) (a .factory .now) (a .read) (a .bytes .now) (a .room .now) (c .before .before .before .before .before .before .before .before .before .before .before .before .load .ensures .0) (c .before .before .before .before .before .before .before .before .before .before .if1 .left) (out .0) (out .1) (c .before .before .before .before .keep .ensures) (c .before .number .ensures .0) (c .pack-up .ensures)
+    let a = c .before .before .before .before .before .before .before .before .before .before .before .before .before .before .before .before .before .before .args in
+    let out = c .before .before .before .before .before .before .before .transact .ensures in
+    transact-done (a .area .now) (a .service .now) (a .factory .now) (a .read) (a .bytes .now) (a .room .now) (c .before .before .before .before .before .before .before .before .before .before .before .load .ensures .0) (c .before .before .before .before .before .before .before .before .before .if1 .left) (out .0) (out .1) (c .before .before .before .keep .ensures) (c .pack-up .ensures)
 
 pub snatchblock-transact-spec : {M : Type 1} → statement M
-snatchblock-transact-spec = tie.close (tie.spec load-requires same-length returns transact-requires keep-requires number-requires pack-up-requires same-length-2 same-length-3 returns-2)
+snatchblock-transact-spec = tie.close (tie.spec (λ c κs. search needs) (λ c. search needs) returns (λ c κs. search needs) keep-requires pack-up-requires (λ c. search needs) (λ c. search needs) returns-2)

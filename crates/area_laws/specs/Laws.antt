@@ -1,0 +1,37 @@
+-- What is proved of areas, over the definitions of the crate `area`. (That a store is loaded again, and a load stored again,
+-- is in the contracts of `store` and `load`.) Assumes nothing: these are definitions.
+use mathlib.Core.Path.{_≡_}
+use mathlib.Core.Bool.{true}
+use mathlib.Core.List.{List}
+use Prim.Native.Nat.{ℕ, _≤_}
+use lib.ListN.{length, drop}
+use Rattle.rooms.specs.Rooms.{Bytes}
+use Rattle.area.specs.Area.{areaLength, areaOf, stateIn, isArea, storedOf}
+use Rattle.pack.specs.Fits.{Fits}
+use Rattle.pack.specs.Sound.{soundOf}
+use Rattle.pack.specs.declared.State.{State}
+
+-- two areas that hold one state are one
+abbrev pub AreasTell : Type 0
+AreasTell = (a b : List ℕ) → Bytes a → Bytes b → isArea a ≡ true → isArea b ≡ true → stateIn a ≡ stateIn b → a ≡ b
+
+-- each number of a state is within its width in an area: what the fields' types hold, and a count that is a byte
+pub record InArea (s : State) : Type 0 where
+  pub fits : Fits s
+  pub count : s .pack .recent .count ≤ 255
+
+-- the state that bytes hold is so
+abbrev pub HeldInArea : Type 0
+HeldInArea = (a : List ℕ) → Bytes a → InArea (stateIn a)
+
+-- two such states with one area are one
+abbrev pub StatesTell : Type 0
+StatesTell = (s t : State) → InArea s → InArea t → areaOf s ≡ areaOf t → s ≡ t
+
+-- a sound state goes into room for an area
+abbrev pub SoundGoesIn : Type 0
+SoundGoesIn = (s : State) (room : List ℕ) → soundOf s ≡ true → length room ≡ areaLength → storedOf s room ≡ 0
+
+-- the error code is the area's first byte: where a call leaves the pack as it was, every other byte of the area stays
+abbrev pub ErrorFirst : Type 0
+ErrorFirst = (s t : State) → s .pack ≡ t .pack → drop 1 (areaOf s) ≡ drop 1 (areaOf t)

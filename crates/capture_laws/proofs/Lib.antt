@@ -1,0 +1,4 @@
+pub mod Exact
+pub mod Walked
+pub mod Read
+pub mod Writes

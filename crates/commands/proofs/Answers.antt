@@ -1,0 +1,29 @@
+-- What a request is answered and replied, by the numbers in their order.
+-- Assumes nothing.
+use Prim.Native.Nat.{ℕ, _<_, _≤_}
+use mathlib.Core.Bool.{Bool, true, false, cond}
+use mathlib.Core.List.{List, []}
+use mathlib.Core.Path.{_≡_, refl, ap}
+use borrow.Author.Tests.{lt-ltb, le-ltb}
+use Rattle.commands.specs.Answers.{Side, requestAnswer, sideAnswer, served, sideReply}
+use Rattle.frame.specs.declared.Request.{Request}
+use Rattle.frame.specs.declared.Request.the-variants.{Refused, Read, Write}
+
+module _ (d : Side) (request : Request) (room : ℕ) where
+  pub unsound : d .sound ≡ false → sideAnswer d request room ≡ 1
+  unfolding sideAnswer
+  unsound e = simp e
+
+  pub small-room : d .sound ≡ true → room < d .least → sideAnswer d request room ≡ 2
+  unfolding sideAnswer
+  small-room e h = simp (e, lt-ltb _ _ h)
+
+  pub past-two : d .sound ≡ true → d .least ≤ room → sideAnswer d request room ≡ requestAnswer d request
+  unfolding sideAnswer
+  past-two e h = simp (e, le-ltb _ _ h)
+
+-- a refusal has no reply bytes
+pub refused-reply : (d : Side) (bytes : List ℕ) (request : Request) (answer : ℕ) → served answer ≡ false → sideReply d bytes request answer ≡ []
+refused-reply d bytes (Refused n) answer e = refl
+refused-reply d bytes (Read command) answer e = ap (λ (b : Bool). cond b (sideReply d bytes (Read command) 0) []) e
+refused-reply d bytes (Write command word checked) answer e = refl

@@ -1,5 +1,0 @@
-pub mod Alarms
-pub mod Bits
-pub mod Range
-pub mod Soundness
-pub mod Words

@@ -1,0 +1,76 @@
+-- Every word is below 65,536.
+-- Assumes nothing.
+use Prim.Native.Nat.{ℕ, _≤_, _<_}
+use mathlib.Core.Bool.{Bool, cond}
+use native.Mathlib.Omega.{arith}
+use lib.Dec.{eqb}
+use Rattle.capacity.proofs.Bounds.{either, at-most, minutes-most}
+use Rattle.gauge.specs.Status.{terminateCharge}
+use Rattle.gauge.specs.Word.{wordOf}
+use Rattle.gauge_laws.proofs.Bits.{status-most}
+use Rattle.gauge_laws.specs.Promises.{WordsBelow}
+use Rattle.pack.proofs.Soundness.{parts, pack-of-sound, code-of-sound}
+use Rattle.pack.specs.declared.Host.{Host}
+use Rattle.pack.specs.declared.Pack.{Pack}
+use Rattle.recent.proofs.Bound.{average-word}
+use Rattle.recent.specs.Recent.{averageOf}
+use Rattle.registers.proofs.Laws.{remaining-at-most-full}
+use Rattle.registers.specs.Registers.{batteryMode, capacityOf, fullChargeCapacity, remainingCapacity, designCapacity, minutesIf, missing, rateOf, covers}
+use Rattle.words.specs.Words.{above, below, sizeOf}
+
+pick : (b : Bool) (x y : ℕ) → x < 65536 → y < 65536 → cond b x y < 65536
+pick = either (λ n. n < 65536)
+
+bit-most : (on : Bool) (weight : ℕ) → cond on weight 0 ≤ weight
+bit-most on weight = at-most on weight 0 weight (omega arith) (omega arith)
+
+mode-word : (h : Host) → batteryMode h < 65536
+mode-word h = omega (arith, bit-most (h .AlarmMode) 8192, bit-most (h .ChargerMode) 16384, bit-most (h .CapacityMode) 32768)
+
+-- a capacity of 16 bits stays one in either mode
+capacity-word : (p : Pack) (capacity : ℕ) → capacity < 65536 → capacityOf p capacity < 65536
+capacity-word p capacity h = pick (p .host .CapacityMode) _ _ (omega arith) h
+
+-- minutes and the mark for none
+minutes-word : (flows : Bool) (capacity rate : ℕ) → minutesIf flows capacity rate < 65536
+minutes-word flows capacity rate = pick flows _ _ (omega (arith, minutes-most capacity rate)) (omega arith)
+
+-- every word of a sound state is below 65,536
+pub word-below : WordsBelow
+unfolding wordOf fullChargeCapacity designCapacity
+word-below s command h f =
+    let p = s .pack in
+    let rate = p .host .AtRate in
+    let now = p .latest .current in
+    let mean = averageOf (p .recent) in
+    let full = capacity-word p (p .tank .full) (f .tank .full) in
+    pick (eqb command 0x00) _ _ (f .host .ManufacturerAccess)
+    (pick (eqb command 0x01) _ _ (f .host .RemainingCapacityAlarm)
+    (pick (eqb command 0x02) _ _ (f .host .RemainingTimeAlarm)
+    (pick (eqb command 0x03) _ _ (mode-word (p .host))
+    (pick (eqb command 0x04) _ _ (f .host .AtRate)
+    (pick (eqb command 0x05) _ _ (pick (p .host .CapacityMode) _ _ (omega arith) (minutes-word (above rate) (missing p) (sizeOf rate)))
+    (pick (eqb command 0x06) _ _ (minutes-word (below rate) (remainingCapacity p) (sizeOf rate))
+    (pick (eqb command 0x07) _ _ (pick (below rate) _ _ (pick (covers p) _ _ (omega arith) (omega arith)) (omega arith))
+    (pick (eqb command 0x08) _ _ (f .latest .temperature)
+    (pick (eqb command 0x09) _ _ (f .latest .voltage)
+    (pick (eqb command 0x0A) _ _ (f .latest .current)
+    (pick (eqb command 0x0B) _ _ (average-word (p .recent))
+    (pick (eqb command 0x0C) _ _ (f .settings .MaxError)
+    (pick (eqb command 0x0D) _ _ (omega arith)
+    (pick (eqb command 0x0E) _ _ (omega arith)
+    (pick (eqb command 0x0F) _ _ (omega (arith, remaining-at-most-full p (parts p (pack-of-sound s h) .tank), full))
+    (pick (eqb command 0x10) _ _ full
+    (pick (eqb command 0x11) _ _ (minutes-word (below now) (remainingCapacity p) (rateOf p now))
+    (pick (eqb command 0x12) _ _ (minutes-word (below mean) (remainingCapacity p) (rateOf p mean))
+    (pick (eqb command 0x13) _ _ (minutes-word (above mean) (missing p) (rateOf p mean))
+    (pick (eqb command 0x14) _ _ (pick (terminateCharge p) _ _ (omega arith) (f .settings .ChargingCurrent))
+    (pick (eqb command 0x15) _ _ (f .settings .ChargingVoltage)
+    (pick (eqb command 0x16) _ _ (omega (arith, status-most p, code-of-sound s h))
+    (pick (eqb command 0x17) _ _ (f .tank .CycleCount)
+    (pick (eqb command 0x18) _ _ (capacity-word p (p .settings .DesignCapacity) (f .settings .DesignCapacity))
+    (pick (eqb command 0x19) _ _ (f .settings .DesignVoltage)
+    (pick (eqb command 0x1A) _ _ (omega arith)
+    (pick (eqb command 0x1B) _ _ (f .settings .ManufactureDate)
+    (pick (eqb command 0x1C) _ _ (f .settings .SerialNumber)
+    (omega arith)))))))))))))))))))))))))))))

@@ -1,0 +1,3 @@
+pub mod Bound
+pub mod Integers
+pub mod Soundness

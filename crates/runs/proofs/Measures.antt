@@ -1,0 +1,139 @@
+-- Time, latest sample, kept samples and charge depend on the accepted samples only.
+-- Assumes nothing.
+use Prim.Native.Nat.{ℕ, suc, _+_, _-_, _%_, _^_, _≤_, min}
+use mathlib.Core.Bool.{Bool, true, false, cond}
+use mathlib.Core.List.{List, [], _∷_, _++_}
+use mathlib.Core.Path.{_≡_, refl, sym, ap, ap₂, _∙_, subst}
+use native.Mathlib.Omega.{arith}
+use lib.Dec.{eqb}
+use lib.IntN.{ℤ, pos}
+use lib.ListN.{take, length-take}
+use lib.Seq.{take-take, take-all}
+use Rattle.bus.specs.Transact.{packWritten}
+use Rattle.tank.proofs.Charge.{charge-held}
+use Rattle.clock.specs.Broadcast.{sampledOf}
+use Rattle.clock.specs.Sample.{elapsedOf, movedOf}
+use Rattle.clock_laws.proofs.Charge.{charge-true}
+use Rattle.clock_laws.proofs.Elapsed.{elapsed-true}
+use Rattle.pack.proofs.Soundness.{tank-facts, parts, pack-of-sound}
+use Rattle.pack.proofs.Start.{sound-when-served}
+use Rattle.pack.specs.SetUp.{latestOf, setUpOf, setUpRefused, packOf, zeroState}
+use Rattle.pack.specs.Sound.{soundOf}
+use Rattle.pack.specs.declared.Pack.{Pack}
+use Rattle.pack.specs.declared.Sample.{Sample}
+use Rattle.pack.specs.declared.Setup.{Setup}
+use Rattle.pack.specs.declared.Started.{Started}
+use Rattle.pack.specs.declared.State.{State}
+use Rattle.runs.proofs.Histories.{seen-through, still-keeps}
+use Rattle.runs.specs.Events.{Event, sample, step, run, acceptedOf, timeOf}
+use Rattle.runs.specs.Histories.{History, done, still-then, took-then}
+use Rattle.runs.specs.Promises.{TimeTrue, MeasuresOfAccepted, KeptSinceSetUp, ChargeSinceSetUp}
+use Rattle.runs.specs.Since.{fromSetUp, Measures, measuresOf, measuresAfter, samplesOf, currentsOf, Signed16, chargeOver, Counted}
+use Rattle.words.proofs.Integers.{split}
+use Rattle.capacity.specs.Capacity.{milliampMs}
+
+-- ---- what is measured
+
+written-measures : (p : Pack) (command word : ℕ) → measuresOf (packWritten p command word) ≡ measuresOf p
+unfolding packWritten
+written-measures p command word = refl
+
+sampled-measures : (p : Pack) (x : Sample) → measuresOf (sampledOf p x) ≡ measuresAfter (measuresOf p) (x ∷ [])
+unfolding sampledOf movedOf
+sampled-measures p x = refl
+
+measures : (s : State) (es : List Event) → History s es → measuresOf (run s es .pack) ≡ measuresAfter (measuresOf (s .pack)) (acceptedOf s es)
+measures s es done = refl
+measures s es (still-then {e = e} {es = later} w r) =
+    measures (step s e) later r
+    ∙ ap (λ (m : Measures). measuresAfter m (acceptedOf (step s e) later)) (still-keeps measuresOf written-measures s e w)
+    ∙ ap (λ (xs : List Sample). measuresAfter (measuresOf (s .pack)) (xs ++ acceptedOf (step s e) later)) (sym (w .none))
+measures s es (took-then {x = x} {n = n} {es = later} k r) =
+    let rest = acceptedOf (step s (sample x n)) later in
+    measures (step s (sample x n)) later r
+    ∙ ap (λ (m : Measures). measuresAfter m rest) (ap measuresOf (k .pack) ∙ sampled-measures (s .pack) x)
+    ∙ ap (λ (xs : List Sample). measuresAfter (measuresOf (s .pack)) (xs ++ rest)) (sym (k .one))
+
+pub measures-of-accepted : MeasuresOfAccepted
+measures-of-accepted s es h = measures s es (seen-through s es h)
+
+-- ---- time
+
+over : (s : State) (es : List Event) (start stop : ℕ) → History s es → s .pack .latest .counter ≡ start % 2 ^ 32 → Counted start (acceptedOf s es) stop
+    → (start ≤ stop) × (timeOf s es ≡ stop - start)
+over s es start stop done h c = (omega (arith, c), omega (arith, c))
+over s es start stop (still-then {e = e} {es = later} w r) h c =
+    let counter : step s e .pack .latest .counter ≡ s .pack .latest .counter =
+    ap (λ (m : Measures). m .latest .counter) (still-keeps measuresOf written-measures s e w) in
+    let rest = over (step s e) later start stop r (counter ∙ h) (subst (λ (xs : List Sample). Counted start (xs ++ acceptedOf (step s e) later) stop) (w .none) c) in
+    (rest .0, omega (arith, w .time, rest .1))
+over s es start stop (took-then {x = x} {n = n} {es = later} k r) h c =
+    let (time, l, d, at, after) =
+    subst (λ (xs : List Sample). Counted start (xs ++ acceptedOf (step s (sample x n)) later) stop) (k .one) c in
+    let counter : step s (sample x n) .pack .latest .counter ≡ x .counter =
+    ap (λ (m : Measures). m .latest .counter) (ap measuresOf (k .pack) ∙ sampled-measures (s .pack) x) in
+    let rest = over (step s (sample x n)) later time stop r (counter ∙ at) after in
+    let first : elapsedOf (x .counter) (s .pack .latest .counter) ≡ time - start = ap₂ elapsedOf at h ∙ elapsed-true start time l d in
+    (omega (arith, l, rest .0), omega (arith, k .time, first, l, rest .0, rest .1))
+
+pub time-true : TimeTrue
+time-true s es start stop h c n = over s es start stop (seen-through s es h) c n .1
+
+-- ---- since set-up
+
+pub set-up-sound : (u : Setup) (first : Sample) → setUpOf u first .answer ≡ 0 → soundOf (fromSetUp u first) ≡ true
+set-up-sound u first a = sound-when-served u first ∙ ap (λ (n : ℕ). eqb n 0) a
+
+-- a served set-up's pack
+pub set-up-pack : (u : Setup) (first : Sample) → setUpOf u first .answer ≡ 0 → fromSetUp u first .pack ≡ packOf u first
+unfolding setUpOf
+set-up-pack u first = go (setUpRefused u)
+  where
+    started : Bool → Started
+    started b = cond b (record { answer = 11; state = zeroState }) (record { answer = 0; state = record { error = 0; pack = packOf u first } })
+
+    go : (b : Bool) → started b .answer ≡ 0 → started b .state .pack ≡ packOf u first
+    go true a = absurd (omega (arith, a))
+    go false a = refl
+
+shorter : (m n : ℕ) (l : List ℕ) → take m (take n l) ≡ take (min m n) l
+shorter m n l =
+    split m n (λ h. let e : m ≡ min m n = omega arith in take-take m n l (omega arith) ∙ ap (λ (k : ℕ). take k l) e)
+    (λ h. let e : n ≡ min m n = omega arith in take-all m (take n l) (omega (arith, length-take n l)) ∙ ap (λ (k : ℕ). take k l) e)
+
+-- one more sample before those kept
+newest : (n c : ℕ) (kept all : List ℕ) → take n kept ≡ take 60 all → take (min 60 (n + 1)) (c ∷ take 59 kept) ≡ take 60 (c ∷ all)
+newest n c kept all e =
+    let one : min 60 (n + 1) ≡ suc (min 59 n) = omega arith in
+    let same : min (min 59 n) 59 ≡ min 59 n = omega arith in
+    ap (λ (k : ℕ). take k (c ∷ take 59 kept)) one
+    ∙ ap (λ (l : List ℕ). c ∷ l)
+    (shorter (min 59 n) 59 kept ∙ ap (λ (k : ℕ). take k kept) same ∙ sym (shorter 59 n kept) ∙ ap (take 59) e ∙ take-take 59 60 all (omega arith))
+
+kept-after : (m : Measures) (xs : List Sample) (all : List ℕ) → samplesOf (m .recent) ≡ take 60 all
+    → samplesOf (measuresAfter m xs .recent) ≡ take 60 (currentsOf all xs)
+kept-after m [] all e = e
+kept-after m (x ∷ xs) all e = kept-after _ xs (latestOf x .current ∷ all) (newest (m .recent .count) (latestOf x .current) (m .recent .currents) all e)
+
+pub kept-since-set-up : KeptSinceSetUp
+unfolding packOf
+kept-since-set-up u first es a =
+    let s = fromSetUp u first in
+    ap (λ (m : Measures). samplesOf (m .recent)) (measures-of-accepted s es (set-up-sound u first a))
+    ∙ kept-after (measuresOf (s .pack)) (acceptedOf s es) (latestOf first .current ∷ []) (ap (λ (p : Pack). samplesOf (p .recent)) (set-up-pack u first a))
+
+charge-after : (m : Measures) (xs : List Sample) → m .tank .charge ≤ milliampMs (m .tank .full) → Signed16 xs
+    → pos (measuresAfter m xs .tank .charge) ≡ chargeOver (m .tank .full) (pos (m .tank .charge)) (m .latest .counter) xs
+charge-after m [] l f = refl
+charge-after m (x ∷ xs) l (f, fs) =
+    let e = elapsedOf (x .counter) (m .latest .counter) in
+    charge-after _ xs (charge-held (m .tank .charge) (m .tank .full) (latestOf x .current) e l) fs
+    ∙ ap (λ (c : ℤ). chargeOver (m .tank .full) c (x .counter) xs) (charge-true (m .tank .charge) (m .tank .full) e x f l)
+
+pub charge-since-set-up : ChargeSinceSetUp
+unfolding packOf
+charge-since-set-up u first es a f =
+    let s = fromSetUp u first in
+    ap (λ (m : Measures). pos (m .tank .charge)) (measures-of-accepted s es (set-up-sound u first a))
+    ∙ charge-after (measuresOf (s .pack)) (acceptedOf s es) (tank-facts (s .pack .tank) (parts (s .pack) (pack-of-sound s (set-up-sound u first a)) .tank) .charge) f
+    ∙ ap (λ (p : Pack). chargeOver (p .tank .full) (pos (p .tank .charge)) (p .latest .counter) (acceptedOf s es)) (set-up-pack u first a)

@@ -1,0 +1,6 @@
+pub mod Events
+pub mod Histories
+pub mod Since
+pub mod Alarms
+pub mod Struck
+pub mod Promises

@@ -1,0 +1,178 @@
+-- The theorems over histories that `proofs/` proves: whatever is written, read or refused between the samples.
+-- Assumes nothing.
+use Prim.Native.Nat.{ℕ, _-_, _%_, _^_, _≤_, _<_}
+use mathlib.Core.Bool.{Bool, true, false}
+use mathlib.Core.List.{List, [], _∷_, _++_}
+use mathlib.Core.Path.{_≡_}
+use lib.IntN.{pos}
+use lib.ListN.{length, take}
+use Rattle.bus_laws.specs.Calls.{Call, reply, Reads, keptWord}
+use Rattle.clock.specs.Broadcast.{alarmGoes, chargerGoes, sampleOf, broadcastRoom}
+use Rattle.clock.specs.Sample.{movedOf}
+use Rattle.frame.specs.Broadcasts.{messageOf}
+use Rattle.frame.specs.Transactions.{replyOf, wordBody}
+use Rattle.gauge.specs.Status.{anyAlarm, alarmWord}
+use Rattle.pack.specs.SetUp.{latestOf, setUpOf}
+use Rattle.pack.specs.Sound.{soundOf}
+use Rattle.pack.specs.declared.Pack.{Pack}
+use Rattle.pack.specs.declared.Sample.{Sample}
+use Rattle.pack.specs.declared.Setup.{Setup}
+use Rattle.pack.specs.declared.State.{State}
+use Rattle.rooms.specs.Rooms.{placed}
+use Rattle.runs.specs.Alarms.{Alarming, NoAlarm, AlarmWithin, ModeWrite, NoModeWrite}
+use Rattle.runs.specs.Events.{Event, sample, step, run, Throughout, sent, accepted, acceptedOf, timeOf, ServedWrite, IdleEvent}
+use Rattle.runs.specs.Histories.{History}
+use Rattle.runs.specs.Since.{fromSetUp, measuresOf, measuresAfter, samplesOf, currentsOf, Signed16, chargeOver, Counted}
+use Rattle.runs.specs.Struck.{Struck, strike, SameBut, Same, Unmoved}
+use Rattle.capacity.specs.Capacity.{milliampMs}
+
+-- ---- histories
+
+-- sound stays sound, over any history
+abbrev pub RunSound : Type 0
+RunSound = (s : State) (es : List Event) → soundOf s ≡ true → soundOf (run s es) ≡ true
+
+-- from a sound state every event is an accepted sample, or takes no time and leaves the pack as it was or as a served write leaves it
+abbrev pub SeenThrough : Type 0
+SeenThrough = (s : State) (es : List Event) → soundOf s ≡ true → History s es
+
+-- the elapsed times come to true time, read off a 32-bit counter, if accepted samples come less than 2^32 ms apart
+abbrev pub TimeTrue : Type 0
+TimeTrue =
+    (s : State) (es : List Event) (start stop : ℕ) → soundOf s ≡ true → s .pack .latest .counter ≡ start % 2 ^ 32
+    → Counted start (acceptedOf s es) stop → timeOf s es ≡ stop - start
+
+-- ---- what is measured
+
+-- latest sample, kept samples and charge depend on the accepted samples only
+abbrev pub MeasuresOfAccepted : Type 0
+MeasuresOfAccepted =
+    (s : State) (es : List Event) → soundOf s ≡ true
+    → measuresOf (run s es .pack) ≡ measuresAfter (measuresOf (s .pack)) (acceptedOf s es)
+
+-- the kept samples are exactly the last 60 currents since set-up, set-up's own first
+abbrev pub KeptSinceSetUp : Type 0
+KeptSinceSetUp =
+    (u : Setup) (first : Sample) (es : List Event) → setUpOf u first .answer ≡ 0
+    → samplesOf (run (fromSetUp u first) es .pack .recent) ≡ take 60 (currentsOf (latestOf first .current ∷ []) (acceptedOf (fromSetUp u first) es))
+
+-- charge is set-up's remaining capacity and, over all accepted samples since, current × elapsed added and held between 0 and full
+abbrev pub ChargeSinceSetUp : Type 0
+ChargeSinceSetUp =
+    (u : Setup) (first : Sample) (es : List Event) → setUpOf u first .answer ≡ 0 → Signed16 (acceptedOf (fromSetUp u first) es)
+    → pos (run (fromSetUp u first) es .pack .tank .charge)
+    ≡ chargeOver (u .full) (pos (milliampMs (u .remaining))) (first .counter) (acceptedOf (fromSetUp u first) es)
+
+-- ---- what is sent
+
+-- `sent` is what a sample's call puts at the front of the lent room
+abbrev pub SentIsPlaced : Type 0
+SentIsPlaced =
+    (s : State) (x : Sample) (room : List ℕ)
+    → (broadcastRoom s x room ≡ placed (sent s (sample x (length room))) room)
+    × (sampleOf s x (length room) .length ≡ length (sent s (sample x (length room))))
+
+-- where an alarm goes, the host's AlarmWarning is the first message sent
+abbrev pub AlarmIsSent : Type 0
+AlarmIsSent =
+    (s : State) (x : Sample) (n : ℕ) → accepted s (sample x n) ≡ true → alarmGoes (movedOf (s .pack) x) ≡ true
+    → take 4 (sent s (sample x n)) ≡ messageOf 0x10 0x16 (alarmWord (movedOf (s .pack) x))
+
+-- an alarm in every 11 s: from any sound state a history of 10 s or more has one in its first 11 s
+abbrev pub AlarmIn11s : Type 0
+AlarmIn11s = (s : State) (es : List Event) → soundOf s ≡ true → Throughout Alarming s es → 10000 ≤ timeOf s es → AlarmWithin 11000 s es
+
+-- at once for the first: at the first sample since set-up at which a bit is set with ALARM_MODE clear
+abbrev pub FirstAtOnce : Type 0
+FirstAtOnce =
+    (u : Setup) (first : Sample) (es : List Event) (x : Sample) → setUpOf u first .answer ≡ 0 → Throughout NoAlarm (fromSetUp u first) es
+    → anyAlarm (movedOf (run (fromSetUp u first) es .pack) x) ≡ true → movedOf (run (fromSetUp u first) es .pack) x .host .AlarmMode ≡ false
+    → alarmGoes (movedOf (run (fromSetUp u first) es .pack) x) ≡ true
+
+-- from an accepted sample at which words go to any later one at which they go, so many milliseconds pass at the least
+abbrev pub ApartBy : ℕ → (Pack → Bool) → Type 0
+ApartBy least goes =
+    (s : State) (x : Sample) (n : ℕ) (es : List Event) (y : Sample) (m : ℕ) → soundOf s ≡ true
+    → accepted s (sample x n) ≡ true → goes (movedOf (s .pack) x) ≡ true
+    → accepted (run s (sample x n ∷ es)) (sample y m) ≡ true → goes (movedOf (run s (sample x n ∷ es) .pack) y) ≡ true
+    → least ≤ timeOf (step s (sample x n)) (es ++ sample y m ∷ [])
+
+-- alarms: 10,000
+abbrev pub AlarmsApart : Type 0
+AlarmsApart = ApartBy 10000 alarmGoes
+
+-- charger words: 30,000
+abbrev pub ChargerWordsApart : Type 0
+ChargerWordsApart = ApartBy 30000 chargerGoes
+
+-- ---- modes
+
+-- a served write to 03 with bit 13 set starts a 60,000 ms hold
+abbrev pub HoldStarts : Type 0
+HoldStarts = (s : State) (e : Event) → ModeWrite 13 true s e → (step s e .pack .timers .hold ≡ 60000) × (step s e .pack .host .AlarmMode ≡ true)
+
+-- ALARM_MODE stays set until the hold has passed, over any history without a write that ends it
+abbrev pub HoldLasts : Type 0
+HoldLasts =
+    (s : State) (es : List Event) → soundOf s ≡ true → Throughout (NoModeWrite 13 false) s es → timeOf s es < s .pack .timers .hold
+    → run s es .pack .host .AlarmMode ≡ true
+
+-- and is clear then, over any history without a write that starts one
+abbrev pub HoldEnds : Type 0
+HoldEnds =
+    (s : State) (es : List Event) → soundOf s ≡ true → Throughout (NoModeWrite 13 true) s es → s .pack .timers .hold ≤ timeOf s es
+    → run s es .pack .host .AlarmMode ≡ false
+
+-- so 60,000 ms after the last write that starts one at the latest
+abbrev pub ClearsItself : Type 0
+ClearsItself =
+    (s : State) (es : List Event) → soundOf s ≡ true → Throughout (NoModeWrite 13 true) s es → 60000 ≤ timeOf s es
+    → run s es .pack .host .AlarmMode ≡ false
+
+-- no alarm goes before the hold has passed
+abbrev pub AlarmsHeld : Type 0
+AlarmsHeld =
+    (s : State) (es : List Event) (x : Sample) (n : ℕ) → soundOf s ≡ true → Throughout (NoModeWrite 13 false) s es
+    → accepted (run s es) (sample x n) ≡ true → timeOf s (es ++ sample x n ∷ []) < s .pack .timers .hold
+    → alarmGoes (movedOf (run s es .pack) x) ≡ false
+
+-- while CHARGER_MODE is set no charger word goes
+abbrev pub ChargerSilent : Type 0
+ChargerSilent =
+    (s : State) (es : List Event) (x : Sample) → soundOf s ≡ true → Throughout (NoModeWrite 14 false) s es → s .pack .host .ChargerMode ≡ true
+    → chargerGoes (movedOf (run s es .pack) x) ≡ false
+
+-- ---- idle chatter doesn't matter
+
+-- idle events leave the pack as it was
+abbrev pub IdleKeep : Type 0
+IdleKeep = (s : State) (es : List Event) → Throughout IdleEvent s es → run s es .pack ≡ s .pack
+
+-- what is written is read back, after any number of idle events
+abbrev pub ReadBack : Type 0
+ReadBack =
+    (s : State) (w : Event) (es : List Event) (r : Call) (command word : ℕ)
+    → ServedWrite s w command word → Throughout IdleEvent (step s w) es → Reads r command → 34 ≤ r .room
+    → reply (run s (w ∷ es)) r ≡ replyOf (r .bytes) (wordBody (keptWord command word))
+
+-- states equal but for the error code give the same, and go to states equal but for the error code
+abbrev pub StepSame : Type 0
+StepSame = (s t : State) (e : Event) → SameBut s t → Same s t e × SameBut (step s e) (step t e)
+
+-- any history since a served set-up, and the same with any of its idle events struck out
+abbrev pub ChatterIsIdle : Type 0
+ChatterIsIdle =
+    (u : Setup) (first : Sample) (es fs : List Event) → setUpOf u first .answer ≡ 0
+    → (r : Struck (fromSetUp u first) es fs) → Unmoved (fromSetUp u first) (fromSetUp u first) es fs r
+
+-- from any two sound states that are the same but for the error code
+abbrev pub ChatterIsIdleFrom : Type 0
+ChatterIsIdleFrom = (s t : State) (es fs : List Event) (r : Struck s es fs) → SameBut s t → Unmoved s t es fs r
+
+-- every choice is such a striking
+abbrev pub AnyChoice : Type 0
+AnyChoice = (bs : List Bool) (s : State) (es : List Event) → Struck s es (strike bs s es)
+
+-- so whatever comes next gives the same
+abbrev pub NextIsSame : Type 0
+NextIsSame = (s : State) (es fs : List Event) → soundOf s ≡ true → Struck s es fs → (e : Event) → Same (run s es) (run s fs) e
