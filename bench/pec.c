@@ -1,11 +1,10 @@
 /* pec WHICH LENGTH REPEATS: calls the proved PEC (WHICH is p) or the same table loop in C (c) on a message of LENGTH bytes,
    REPEATS times; LENGTH 0 is each length from 2 to 37. Both must agree on every length first. */
-#include <stddef.h>
-#include <stdint.h>
+#include "snatchblock.h"
+
 #include <stdio.h>
 #include <stdlib.h>
 
-uint8_t smbus_pec(const uint8_t *bytes, size_t length);
 uint8_t table_pec(const uint8_t *bytes, size_t length);
 
 static uint8_t message[65536];
@@ -22,11 +21,11 @@ int main(int argc, char **argv)
         message[i] = (uint8_t)(seed >> 16);
     }
     for (size_t n = 0; n <= 300; n++)
-        if (smbus_pec(message, n) != table_pec(message, n)) {
+        if (snatchblock_pec(message, n) != table_pec(message, n)) {
             printf("the two differ at %zu bytes\n", n);
             return 1;
         }
-    uint8_t (*pec)(const uint8_t *, size_t) = argv[1][0] == 'p' ? smbus_pec : table_pec;
+    uint8_t (*pec)(const uint8_t *, size_t) = argv[1][0] == 'p' ? snatchblock_pec : table_pec;
     size_t first = length ? length : 2, last = length ? length : 37;
     unsigned sum = 0;
     for (unsigned long r = 0; r < repeats; r++)

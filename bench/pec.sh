@@ -2,38 +2,29 @@
 # Counts the x86-64 instructions of the proved PEC beside the same table loop in C at -O2, for each byte.
 # A count is the difference of two runs with different repeat counts, so that what surrounds the calls drops out.
 set -eu
-cd "$(dirname "$0")/.."
+root=$(cd "$(dirname "$0")/.." && pwd -P)
+. "$root/tools/clib"
+cd "$root"
 out=target/bench
 mkdir -p "$out"
 
-rt staticlib pec_c >"$out/staticlib.log" 2>&1 || { cat "$out/staticlib.log"; exit 1; }
-
-kit=$(dirname "$(dirname "$(readlink -f "$(command -v rt)")")")
-case $(uname -m) in
-x86_64)
-    cross=cc emulator=
-    command -v valgrind >/dev/null || { echo "bench/pec.sh needs valgrind"; exit 1; }
+if [ -z "$emulator" ]; then
+    command -v valgrind >/dev/null || clib_fail "needs valgrind"
     count() { valgrind --tool=callgrind --callgrind-out-file=/dev/null "$out/pec" "$@" 2>&1 | sed -n 's/.*Collected : //p'; }
-    ;;
-*)
-    cross=x86_64-linux-gnu-gcc
-    command -v $cross >/dev/null || { echo "bench/pec.sh needs $cross (gcc-x86-64-linux-gnu, libc6-dev-amd64-cross)"; exit 1; }
-    emulator=$(find "$kit/" -name qemu-x86_64 -type f | head -n 1)
-    [ -n "$emulator" ] || { echo "bench/pec.sh found no qemu-x86_64 in the kit"; exit 1; }
+else
     count() {
         "$emulator" -one-insn-per-tb -d exec,nochain -D "$out/trace" "$out/pec" "$@"
         grep -c '^Trace' "$out/trace"
         rm -f "$out/trace"
     }
-    ;;
-esac
+fi
 
 cc -o "$out/table_h" bench/table_h.c
 "$out/table_h" >"$out/table.h"
-$cross -O2 -I "$out" -c -o "$out/table.o" bench/table.c
-$cross -O2 -c -o "$out/pec.o" bench/pec.c
-$cross -static -o "$out/pec" "$out/pec.o" "$out/table.o" target/staticlib/libpec_c.a
-$emulator "$out/pec" p 2 1
+"$cc" -O2 -I "$out" -c -o "$out/table.o" bench/table.c
+"$cc" -O2 -I "$include" -c -o "$out/pec.o" bench/pec.c
+"$cc" -static -o "$out/pec" "$out/pec.o" "$out/table.o" "$library"
+${emulator:+"$emulator"} "$out/pec" p 2 1
 
 # instructions LENGTH WHICH: of one call, or of all from 2 to 37 bytes
 instructions() {

@@ -10,23 +10,23 @@
  * above it, in the bits named below, and is 0 where the call is refused, unless said otherwise. A refused call writes
  * no byte of a room, and of the area only what snatchblock_transact says.
  *
- * The area. The pack's state lies in SNATCHBLOCK_AREA bytes, each number low byte first, a flag 1 or 0; a firmware may
- * keep them in RAM or in EEPROM:
+ * The area. The pack's state lies in SNATCHBLOCK_AREA bytes: the error code, then each part at its place (named below),
+ * each number low byte first, a flag 1 or 0; a firmware may keep them in RAM or in EEPROM:
  *
- *   at   bytes
- *     0      1  error code
- *     1  9 x 2  DesignCapacity, DesignVoltage, MaxError, ManufactureDate, SerialNumber, ChargingCurrent,
- *               ChargingVoltage, TemperatureLimit, DischargeLimit
- *    19  4 x 2  ManufacturerAccess, RemainingCapacityAlarm, RemainingTimeAlarm, AtRate
- *    27  3 x 1  flags: AlarmMode, ChargerMode, CapacityMode
- *    30  3 x 2  the latest sample's voltage, current, temperature
- *    36      4  its counter
- *    40 60 x 2  the kept currents, newest first
- *   160      1  how many are kept
- *   161      8  charge
- *   169  2 x 2  full capacity, CycleCount
- *   173      1  flag: FullyDischarged
- *   174  3 x 4  hold, alarm timer, charger timer
+ *   part      from   at  bytes
+ *                0    0      1  error code
+ *   SETTINGS     1    0  9 x 2  DesignCapacity, DesignVoltage, MaxError, ManufactureDate, SerialNumber, ChargingCurrent,
+ *                               ChargingVoltage, TemperatureLimit, DischargeLimit
+ *   HOST        19    0  4 x 2  ManufacturerAccess, RemainingCapacityAlarm, RemainingTimeAlarm, AtRate
+ *                     8  3 x 1  flags: AlarmMode, ChargerMode, CapacityMode
+ *   LATEST      30    0  3 x 2  the latest sample's voltage, current, temperature
+ *                     6      4  its counter
+ *   TANK        40    0      8  charge
+ *                     8  2 x 2  full capacity, CycleCount
+ *                    12      1  flag: FullyDischarged
+ *   TIMERS      53    0  3 x 4  hold, alarm timer, charger timer
+ *   RECENT      65    0 60 x 2  the currents of the kept samples, newest first
+ *                   120      1  how many are kept
  *
  * Bytes of another number, or with a flag byte above 1, are no area: they are answered 1 and left as they are. So is
  * an area whose state isn't sound.
@@ -42,8 +42,14 @@
 extern "C" {
 #endif
 
-/* The bytes of an area. */
-#define SNATCHBLOCK_AREA 186
+/* Where each part of an area starts, and the bytes of an area. */
+#define SNATCHBLOCK_SETTINGS 1
+#define SNATCHBLOCK_HOST (SNATCHBLOCK_SETTINGS + 18)
+#define SNATCHBLOCK_LATEST (SNATCHBLOCK_HOST + 11)
+#define SNATCHBLOCK_TANK (SNATCHBLOCK_LATEST + 10)
+#define SNATCHBLOCK_TIMERS (SNATCHBLOCK_TANK + 13)
+#define SNATCHBLOCK_RECENT (SNATCHBLOCK_TIMERS + 12)
+#define SNATCHBLOCK_AREA (SNATCHBLOCK_RECENT + 121)
 
 /* Room that is always enough: of a sample's broadcasts, a transaction's reply, a key, a sheet. Less is refused. */
 #define SNATCHBLOCK_BROADCAST_ROOM 16

@@ -1,7 +1,5 @@
-/* The state in a lent area of 186 bytes, as a firmware keeps it over the winter. */
+/* The state in a lent area, part by part, as a firmware keeps it over the winter. */
 #include "snatchblock2.h"
-
-enum { HOST = 19, FIRST_FLAGS = 27, FLAGS = 3, LAST_FLAG = 173, TIMERS = 174 };
 
 /* The number that so many bytes stand for, low byte first. */
 static uint64_t number(const uint8_t **at, size_t bytes)
@@ -30,65 +28,80 @@ static int16_t signed_word(const uint8_t **at)
 /* As many bytes as an area has, each flag 0 or 1. */
 static bool is_area(struct sb2_bytes area)
 {
+    static const size_t flags[] = {SB2_HOST_AT + 8, SB2_HOST_AT + 9, SB2_HOST_AT + 10, SB2_TANK_AT + 12};
     if (area.length != SB2_AREA)
         return false;
-    for (size_t i = FIRST_FLAGS; i < FIRST_FLAGS + FLAGS; i++)
-        if (area.at[i] > 1)
+    for (size_t i = 0; i < sizeof flags / sizeof *flags; i++)
+        if (area.at[flags[i]] > 1)
             return false;
-    return area.at[LAST_FLAG] <= 1;
+    return true;
 }
 
-static void load_settings(const uint8_t **at, struct sb2_settings *s)
+static void load_settings(const uint8_t *at, struct sb2_settings *s)
 {
-    s->design_capacity = word(at);
-    s->design_voltage = word(at);
-    s->max_error = word(at);
-    s->manufacture_date = word(at);
-    s->serial_number = word(at);
-    s->charging_current = word(at);
-    s->charging_voltage = word(at);
-    s->temperature_limit = word(at);
-    s->discharge_limit = word(at);
+    s->design_capacity = word(&at);
+    s->design_voltage = word(&at);
+    s->max_error = word(&at);
+    s->manufacture_date = word(&at);
+    s->serial_number = word(&at);
+    s->charging_current = word(&at);
+    s->charging_voltage = word(&at);
+    s->temperature_limit = word(&at);
+    s->discharge_limit = word(&at);
 }
 
-static void load_host(const uint8_t **at, struct sb2_host *h)
+static void load_host(const uint8_t *at, struct sb2_host *h)
 {
-    h->manufacturer_access = word(at);
-    h->remaining_capacity_alarm = word(at);
-    h->remaining_time_alarm = word(at);
-    h->at_rate = signed_word(at);
-    h->alarm_mode = number(at, 1) == 1;
-    h->charger_mode = number(at, 1) == 1;
-    h->capacity_mode = number(at, 1) == 1;
+    h->manufacturer_access = word(&at);
+    h->remaining_capacity_alarm = word(&at);
+    h->remaining_time_alarm = word(&at);
+    h->at_rate = signed_word(&at);
+    h->alarm_mode = number(&at, 1) == 1;
+    h->charger_mode = number(&at, 1) == 1;
+    h->capacity_mode = number(&at, 1) == 1;
 }
 
-static void load_measured(const uint8_t **at, struct sb2_sample *latest, struct sb2_kept *kept)
+static void load_latest(const uint8_t *at, struct sb2_sample *latest)
 {
-    latest->voltage = word(at);
-    latest->current = signed_word(at);
-    latest->temperature = word(at);
-    latest->counter = (uint32_t)number(at, 4);
+    latest->voltage = word(&at);
+    latest->current = signed_word(&at);
+    latest->temperature = word(&at);
+    latest->counter = (uint32_t)number(&at, 4);
+}
+
+static void load_tank(const uint8_t *at, struct sb2_tank *t)
+{
+    t->charge = number(&at, 8);
+    t->full_capacity = word(&at);
+    t->cycle_count = word(&at);
+    t->fully_discharged = number(&at, 1) == 1;
+}
+
+static void load_timers(const uint8_t *at, struct sb2_timers *t)
+{
+    t->hold = (uint32_t)number(&at, 4);
+    t->alarm = (uint32_t)number(&at, 4);
+    t->charger = (uint32_t)number(&at, 4);
+}
+
+static void load_recent(const uint8_t *at, struct sb2_kept *kept)
+{
     for (size_t i = 0; i < SB2_KEPT; i++)
-        kept->current[i] = signed_word(at);
-    kept->count = (uint32_t)number(at, 1);
+        kept->current[i] = signed_word(&at);
+    kept->count = (uint32_t)number(&at, 1);
 }
 
 bool sb2_area_load(struct sb2_bytes area, struct sb2_state *state)
 {
     if (!is_area(area))
         return false;
-    const uint8_t *at = area.at;
-    state->error_code = (uint32_t)number(&at, 1);
-    load_settings(&at, &state->settings);
-    load_host(&at, &state->host);
-    load_measured(&at, &state->latest, &state->kept);
-    state->tank.charge = number(&at, 8);
-    state->tank.full_capacity = word(&at);
-    state->tank.cycle_count = word(&at);
-    state->tank.fully_discharged = number(&at, 1) == 1;
-    state->timers.hold = (uint32_t)number(&at, 4);
-    state->timers.alarm = (uint32_t)number(&at, 4);
-    state->timers.charger = (uint32_t)number(&at, 4);
+    state->error_code = area.at[0];
+    load_settings(area.at + SB2_SETTINGS_AT, &state->settings);
+    load_host(area.at + SB2_HOST_AT, &state->host);
+    load_latest(area.at + SB2_LATEST_AT, &state->latest);
+    load_tank(area.at + SB2_TANK_AT, &state->tank);
+    load_timers(area.at + SB2_TIMERS_AT, &state->timers);
+    load_recent(area.at + SB2_RECENT_AT, &state->kept);
     return true;
 }
 
@@ -107,71 +120,75 @@ static void put_word(uint8_t **at, uint16_t value)
     *at += 2;
 }
 
-static void store_settings(uint8_t **at, const struct sb2_settings *s)
+static void store_settings(uint8_t *at, const struct sb2_settings *s)
 {
-    put_word(at, s->design_capacity);
-    put_word(at, s->design_voltage);
-    put_word(at, s->max_error);
-    put_word(at, s->manufacture_date);
-    put_word(at, s->serial_number);
-    put_word(at, s->charging_current);
-    put_word(at, s->charging_voltage);
-    put_word(at, s->temperature_limit);
-    put_word(at, s->discharge_limit);
+    put_word(&at, s->design_capacity);
+    put_word(&at, s->design_voltage);
+    put_word(&at, s->max_error);
+    put_word(&at, s->manufacture_date);
+    put_word(&at, s->serial_number);
+    put_word(&at, s->charging_current);
+    put_word(&at, s->charging_voltage);
+    put_word(&at, s->temperature_limit);
+    put_word(&at, s->discharge_limit);
 }
 
-static void store_host(uint8_t **at, const struct sb2_host *h)
+static void store_host(uint8_t *at, const struct sb2_host *h)
 {
-    put_word(at, h->manufacturer_access);
-    put_word(at, h->remaining_capacity_alarm);
-    put_word(at, h->remaining_time_alarm);
-    put_word(at, (uint16_t)h->at_rate);
-    put(at, 1, h->alarm_mode);
-    put(at, 1, h->charger_mode);
-    put(at, 1, h->capacity_mode);
+    put_word(&at, h->manufacturer_access);
+    put_word(&at, h->remaining_capacity_alarm);
+    put_word(&at, h->remaining_time_alarm);
+    put_word(&at, (uint16_t)h->at_rate);
+    put(&at, 1, h->alarm_mode);
+    put(&at, 1, h->charger_mode);
+    put(&at, 1, h->capacity_mode);
 }
 
-static void store_measured(uint8_t **at, const struct sb2_sample *latest, const struct sb2_kept *kept)
+static void store_latest(uint8_t *at, const struct sb2_sample *latest)
 {
-    put_word(at, latest->voltage);
-    put_word(at, (uint16_t)latest->current);
-    put_word(at, latest->temperature);
-    put(at, 4, latest->counter);
+    put_word(&at, latest->voltage);
+    put_word(&at, (uint16_t)latest->current);
+    put_word(&at, latest->temperature);
+    put(&at, 4, latest->counter);
+}
+
+static void store_tank(uint8_t *at, const struct sb2_tank *t)
+{
+    put(&at, 8, t->charge);
+    put_word(&at, t->full_capacity);
+    put_word(&at, t->cycle_count);
+    put(&at, 1, t->fully_discharged);
+}
+
+static void store_timers(uint8_t *at, const struct sb2_timers *t)
+{
+    put(&at, 4, t->hold);
+    put(&at, 4, t->alarm);
+    put(&at, 4, t->charger);
+}
+
+static void store_recent(uint8_t *at, const struct sb2_kept *kept)
+{
     for (size_t i = 0; i < SB2_KEPT; i++)
-        put_word(at, (uint16_t)kept->current[i]);
-    put(at, 1, kept->count);
-}
-
-static void store_timers(uint8_t **at, const struct sb2_timers *t)
-{
-    put(at, 4, t->hold);
-    put(at, 4, t->alarm);
-    put(at, 4, t->charger);
-}
-
-void sb2_area_store(const struct sb2_state *state, uint8_t area[SB2_AREA])
-{
-    uint8_t *at = area;
-    put(&at, 1, state->error_code);
-    store_settings(&at, &state->settings);
-    store_host(&at, &state->host);
-    store_measured(&at, &state->latest, &state->kept);
-    put(&at, 8, state->tank.charge);
-    put_word(&at, state->tank.full_capacity);
-    put_word(&at, state->tank.cycle_count);
-    put(&at, 1, state->tank.fully_discharged);
-    store_timers(&at, &state->timers);
+        put_word(&at, (uint16_t)kept->current[i]);
+    put(&at, 1, kept->count);
 }
 
 /* Writes what a transaction can change: error code, the host's words, timers. */
 static void store_transacted(const struct sb2_state *state, uint8_t area[SB2_AREA])
 {
-    uint8_t *at = area;
-    put(&at, 1, state->error_code);
-    at = area + HOST;
-    store_host(&at, &state->host);
-    at = area + TIMERS;
-    store_timers(&at, &state->timers);
+    area[0] = (uint8_t)(state->error_code & 0xFF);
+    store_host(area + SB2_HOST_AT, &state->host);
+    store_timers(area + SB2_TIMERS_AT, &state->timers);
+}
+
+void sb2_area_store(const struct sb2_state *state, uint8_t area[SB2_AREA])
+{
+    store_transacted(state, area);
+    store_settings(area + SB2_SETTINGS_AT, &state->settings);
+    store_latest(area + SB2_LATEST_AT, &state->latest);
+    store_tank(area + SB2_TANK_AT, &state->tank);
+    store_recent(area + SB2_RECENT_AT, &state->kept);
 }
 
 int sb2_area_set_up(uint8_t *area, size_t area_length, const struct sb2_set_up *in)

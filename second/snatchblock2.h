@@ -44,7 +44,6 @@ enum {
     SB2_NAME_MOST = 32,
     SB2_MESSAGE_MOST = 37,
     SB2_CAPTURE_MOST = 1 + 255 * 39,
-    SB2_AREA = 186,
     SB2_KEPT = 60,
     SB2_HOLD_MS = 60000,
     SB2_ALARM_MS = 10000,
@@ -181,14 +180,22 @@ int sb2_transact(struct sb2_state *state, bool read, struct sb2_bytes message, s
 
 /* ---- the state in an area
 
- * 186 bytes, every number low byte first, a flag 0 or 1; at byte
- *     0  error code, one byte
- *     1  the nine words of sb2_settings in their order
- *    19  the four words of sb2_host in their order, then its three flags
- *    30  voltage, current and temperature of the latest sample; 36: its counter, four bytes
- *    40  the 60 kept currents, newest first; 160: how many are kept, one byte
- *   161  charge, eight bytes; full capacity; cycle count; 173: the flag of bit 4
- *   174  hold, alarm timer and charger timer, four bytes each */
+ * The error code in one byte, then the parts, every number low byte first, a flag 0 or 1:
+ *   settings  the nine words of sb2_settings in their order
+ *   host      the four words of sb2_host in their order, then its three flags
+ *   latest    voltage, current and temperature of the latest sample; its counter, four bytes
+ *   tank      charge, eight bytes; full capacity; cycle count; the flag of bit 4
+ *   timers    hold, alarm timer and charger timer, four bytes each
+ *   recent    the 60 kept currents, newest first; how many are kept, one byte */
+enum {
+    SB2_SETTINGS_AT = 1,
+    SB2_HOST_AT = SB2_SETTINGS_AT + 18,
+    SB2_LATEST_AT = SB2_HOST_AT + 11,
+    SB2_TANK_AT = SB2_LATEST_AT + 10,
+    SB2_TIMERS_AT = SB2_TANK_AT + 13,
+    SB2_RECENT_AT = SB2_TIMERS_AT + 12,
+    SB2_AREA = SB2_RECENT_AT + 121, /* the bytes of an area */
+};
 
 /* Reads an area; false, and no state, if it has another size or a flag byte over 1. */
 bool sb2_area_load(struct sb2_bytes area, struct sb2_state *state);

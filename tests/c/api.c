@@ -134,14 +134,15 @@ static void layout(void)
 {
     usual_pack();
     const uint8_t front[] = {0, 0xA0, 0x0F, 0xD0, 0x39, 2, 0, 0x6F, 0x52, 17, 0, 0xD0, 0x07, 0xA0, 0x41, 0x6E, 0x0C, 0xF8, 0x2A,
-                             0, 0, 0x90, 0x01, 10, 0, 0, 0, 0, 0, 0, 0xD0, 0x39, 0, 0, 0xA5, 0x0B, 0, 0, 0, 0};
+                             0, 0, 0x90, 0x01, 10, 0, 0, 0, 0, 0, 0, 0xD0, 0x39, 0, 0, 0xA5, 0x0B, 0, 0, 0, 0,
+                             /* 2,000 mAh are 7,200,000,000 mA·ms */
+                             0x00, 0x48, 0x27, 0xAD, 1, 0, 0, 0, 0xA0, 0x0F, 7, 0, 0, 0, 0, 0, 0, 0x10, 0x27, 0, 0, 0, 0, 0, 0};
+    CHECK(sizeof front, SNATCHBLOCK_RECENT);
     CHECK(memcmp(area, front, sizeof front), 0);
-    for (size_t i = 40; i < 160; i++)
+    for (size_t i = SNATCHBLOCK_RECENT; i < SNATCHBLOCK_AREA - 1; i++)
         CHECK(area[i], 0);
-    /* 2,000 mAh are 7,200,000,000 mA·ms */
-    const uint8_t back[] = {1, 0x00, 0x48, 0x27, 0xAD, 1, 0, 0, 0, 0xA0, 0x0F, 7, 0, 0, 0, 0, 0, 0, 0x10, 0x27, 0, 0, 0, 0, 0, 0};
-    CHECK(sizeof back, SNATCHBLOCK_AREA - 160);
-    CHECK(memcmp(area + 160, back, sizeof back), 0);
+    CHECK(area[SNATCHBLOCK_AREA - 1], 1);
+    CHECK(SNATCHBLOCK_AREA, 186);
 }
 
 static void put(size_t at, size_t bytes, uint64_t value)
@@ -169,26 +170,26 @@ static void soundness(void)
     CHECK(snatchblock_sound(area, SNATCHBLOCK_AREA), false);
     usual_pack();
     border(0, 1, 7, 8);
-    border(1, 2, 1, 0);
-    border(3, 2, 1, 0);
-    border(27, 1, 0, 1); /* ALARM_MODE without a hold */
-    border(28, 1, 1, 2);
-    border(29, 1, 1, 2);
-    border(160, 1, 1, 0);
-    border(160, 1, 60, 61);
-    border(161, 8, 4000ull * 3600000, 4000ull * 3600000 + 1);
-    border(161, 8, 0, UINT64_MAX);
-    border(169, 2, 2000, 0);
-    border(173, 1, 1, 2);
-    border(174, 4, 0, 1); /* a hold without ALARM_MODE */
-    border(178, 4, 0, 10001);
-    border(182, 4, 29999, 30000);
+    border(SNATCHBLOCK_SETTINGS, 2, 1, 0);
+    border(SNATCHBLOCK_SETTINGS + 2, 2, 1, 0);
+    border(SNATCHBLOCK_HOST + 8, 1, 0, 1); /* ALARM_MODE without a hold */
+    border(SNATCHBLOCK_HOST + 9, 1, 1, 2);
+    border(SNATCHBLOCK_HOST + 10, 1, 1, 2);
+    border(SNATCHBLOCK_RECENT + 120, 1, 1, 0);
+    border(SNATCHBLOCK_RECENT + 120, 1, 60, 61);
+    border(SNATCHBLOCK_TANK, 8, 4000ull * 3600000, 4000ull * 3600000 + 1);
+    border(SNATCHBLOCK_TANK, 8, 0, UINT64_MAX);
+    border(SNATCHBLOCK_TANK + 8, 2, 2000, 0);
+    border(SNATCHBLOCK_TANK + 12, 1, 1, 2);
+    border(SNATCHBLOCK_TIMERS, 4, 0, 1); /* a hold without ALARM_MODE */
+    border(SNATCHBLOCK_TIMERS + 4, 4, 0, 10001);
+    border(SNATCHBLOCK_TIMERS + 8, 4, 29999, 30000);
     write_word(0x03, 0x2000);
-    border(174, 4, 1, 0);
-    border(174, 4, 60000, 60001);
-    border(27, 1, 1, 255);
+    border(SNATCHBLOCK_TIMERS, 4, 1, 0);
+    border(SNATCHBLOCK_TIMERS, 4, 60000, 60001);
+    border(SNATCHBLOCK_HOST + 8, 1, 1, 255);
     write_word(0x03, 0x4000);
-    border(182, 4, 0, 1);
+    border(SNATCHBLOCK_TIMERS + 8, 4, 0, 1);
 }
 
 /* ---- samples */

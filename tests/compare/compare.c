@@ -373,7 +373,7 @@ static void play_sample(bool whole)
     struct sb2_state state;
     struct sb2_sample sample = {some_word(), some_current(), some_word(), 0};
     uint32_t before = 0;
-    bool held = state_area[27] == 1;
+    bool held = state_area[SNATCHBLOCK_HOST + 8] == 1;
     if (sb2_area_load(bytes_of(state_area, SNATCHBLOCK_AREA), &state)) {
         before = state.latest.counter;
         if (one_in(2)) { /* near the limits of this pack */
@@ -594,21 +594,21 @@ static void put(size_t at, size_t bytes, uint64_t value)
 /* Changes one field of the area to a value at one of its borders, or to anything. */
 static void bend_area(void)
 {
-    uint64_t full = (uint64_t)(state_area[169] | state_area[170] << 8) * SB2_MS_PER_HOUR;
+    uint64_t full = (uint64_t)(state_area[SNATCHBLOCK_TANK + 8] | state_area[SNATCHBLOCK_TANK + 9] << 8) * SB2_MS_PER_HOUR;
     switch (below(14)) {
     case 0: put(0, 1, 5 + below(5)); break;
-    case 1: put(27, 1, below(3)); break;
-    case 2: put(28, 1, below(3)); break;
-    case 3: put(29, 1, below(3)); break;
-    case 4: put(173, 1, below(3)); break;
-    case 5: put(160, 1, one_in(2) ? below(3) : 59 + below(4)); break;
-    case 6: put(161, 8, full - 1 + below(3)); break;
-    case 7: put(161, 8, one_in(2) ? below(2) : draw() >> below(64)); break;
-    case 8: put(174, 4, one_in(2) ? below(3) : 59999 + below(3)); break;
-    case 9: put(178, 4, one_in(2) ? below(3) : 9999 + below(3)); break;
-    case 10: put(182, 4, one_in(2) ? below(3) : 29998 + below(3)); break;
-    case 11: put(1 + 2 * below(9), 2, below(3)); break;
-    case 12: put(169, 2, below(3)); break;
+    case 1: put(SNATCHBLOCK_HOST + 8, 1, below(3)); break;
+    case 2: put(SNATCHBLOCK_HOST + 9, 1, below(3)); break;
+    case 3: put(SNATCHBLOCK_HOST + 10, 1, below(3)); break;
+    case 4: put(SNATCHBLOCK_TANK + 12, 1, below(3)); break;
+    case 5: put(SNATCHBLOCK_RECENT + 120, 1, one_in(2) ? below(3) : 59 + below(4)); break;
+    case 6: put(SNATCHBLOCK_TANK, 8, full - 1 + below(3)); break;
+    case 7: put(SNATCHBLOCK_TANK, 8, one_in(2) ? below(2) : draw() >> below(64)); break;
+    case 8: put(SNATCHBLOCK_TIMERS, 4, one_in(2) ? below(3) : 59999 + below(3)); break;
+    case 9: put(SNATCHBLOCK_TIMERS + 4, 4, one_in(2) ? below(3) : 9999 + below(3)); break;
+    case 10: put(SNATCHBLOCK_TIMERS + 8, 4, one_in(2) ? below(3) : 29998 + below(3)); break;
+    case 11: put(SNATCHBLOCK_SETTINGS + 2 * below(9), 2, below(3)); break;
+    case 12: put(SNATCHBLOCK_TANK + 8, 2, below(3)); break;
     default: state_area[below(SNATCHBLOCK_AREA)] = (uint8_t)draw(); break;
     }
 }
@@ -624,15 +624,15 @@ static void play_at_rate_ok(void)
     static const uint16_t even_voltages[] = {1, 10, 5000, 10000, 12500, 20000}; /* divisors of 100,000,000 */
     struct sb2_state state;
     if (one_in(2))
-        put(3, 2, even_voltages[below(sizeof even_voltages / sizeof *even_voltages)]);
-    put(25, 2, (uint16_t)(one_in(4) ? 0x8000 : 0xFFFF - below(3000)));
-    put(29, 1, below(2));
-    put(169, 2, 65535);
+        put(SNATCHBLOCK_SETTINGS + 2, 2, even_voltages[below(sizeof even_voltages / sizeof *even_voltages)]);
+    put(SNATCHBLOCK_HOST + 6, 2, (uint16_t)(one_in(4) ? 0x8000 : 0xFFFF - below(3000)));
+    put(SNATCHBLOCK_HOST + 10, 1, below(2));
+    put(SNATCHBLOCK_TANK + 8, 2, 65535);
     (void)sb2_area_load(bytes_of(state_area, SNATCHBLOCK_AREA), &state);
     uint64_t design = state.settings.design_voltage ? state.settings.design_voltage : 1;
     uint64_t rate = magnitude(state.host.at_rate) * 10000;
     uint64_t discharge = state.latest.current < 0 ? magnitude(state.latest.current) * 10000 : 0;
-    put(161, 8, (state.host.capacity_mode ? (rate * 10000 + design - 1) / design : rate) + discharge - 1 + below(3));
+    put(SNATCHBLOCK_TANK, 8, (state.host.capacity_mode ? (rate * 10000 + design - 1) / design : rate) + discharge - 1 + below(3));
     const uint8_t message[3] = {0x16, 0x07, 0x17};
     play_message(message, 3, true, SNATCHBLOCK_AREA);
 }
@@ -646,7 +646,7 @@ static void play_time_alarm(void)
     const uint8_t ask[3] = {0x16, 0x12, 0x17};
     play_message(ask, 3, true, SNATCHBLOCK_AREA);
     if (room.length >= SB2_REPLY_ROOM)
-        put(23, 2, (uint64_t)(room.s[0] | room.s[1] << 8) - 1 + below(3));
+        put(SNATCHBLOCK_HOST + 4, 2, (uint64_t)(room.s[0] | room.s[1] << 8) - 1 + below(3));
     const uint8_t status[3] = {0x16, 0x16, 0x17};
     play_message(status, 3, true, SNATCHBLOCK_AREA);
 }
@@ -662,7 +662,7 @@ static void play_areas(void)
         for (uint32_t bends = below(4); bends > 0; bends--)
             bend_area();
         if (one_in(2))
-            fill(state_area + 40, 120); /* kept currents, those beyond the count too */
+            fill(state_area + SNATCHBLOCK_RECENT, 120); /* kept currents, those beyond the count too */
         play_sound();
         if (one_in(2))
             play_sample(false);

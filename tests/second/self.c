@@ -1004,13 +1004,14 @@ static void areas(void)
     CHECK(sb2_area_set_up(again, SB2_AREA, &in), 0);
     CHECK(memcmp(area, again, SB2_AREA), 0);
     /* the bytes at the places that the header names: current, counter, count, alarm timer */
-    CHECK(area[33], 0x80);
-    CHECK(area[36], 0xF0);
-    CHECK(area[160], 1);
-    CHECK(area[178] | area[179] << 8, 10000);
+    CHECK(area[SB2_LATEST_AT + 3], 0x80);
+    CHECK(area[SB2_LATEST_AT + 6], 0xF0);
+    CHECK(area[SB2_RECENT_AT + 120], 1);
+    CHECK(area[SB2_TIMERS_AT + 4] | area[SB2_TIMERS_AT + 5] << 8, 10000);
+    CHECK(SB2_AREA, 186);
     for (size_t size = 0; size <= sizeof area; size++)
         CHECK(sb2_area_load(bytes(area, size), &back), size == SB2_AREA);
-    static const size_t flags[] = {27, 28, 29, 173};
+    static const size_t flags[] = {SB2_HOST_AT + 8, SB2_HOST_AT + 9, SB2_HOST_AT + 10, SB2_TANK_AT + 12};
     for (size_t i = 0; i < 4; i++) {
         uint8_t kept = area[flags[i]];
         area[flags[i]] = 2;
