@@ -1,4 +1,1 @@
-pub mod Numbers
-pub mod Stores
-pub mod Parts
 pub mod Whole

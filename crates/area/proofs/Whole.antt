@@ -14,10 +14,10 @@ use Rattle.rooms.specs.Rooms.{Bytes, between}
 use Rattle.rooms.proofs.Rooms.{front}
 use Rattle.area.specs.Area.{settingsAt, hostAt, latestAt, tankAt, timersAt, recentAt, areaLength, areaOf, stateIn, isArea, loaded, loadedOf}
 use Rattle.pack.specs.Fits.{Fits}
-use Rattle.area.specs.Numbers.{numberBytes, bytesTaken}
-use Rattle.area.specs.Parts.{settingsWidths, hostWidths, latestWidths, tankWidths, timersWidths, recentWidths, settingsBytes, hostBytes, latestBytes, tankBytes, timersBytes, recentBytes, isHost, isTank, recentIn}
-use Rattle.area.proofs.Numbers.{bytes-between, number-again}
-use Rattle.area.proofs.Parts.{settings-back, host-back, host-is, latest-back, tank-back, tank-is, timers-back, recent-length, recent-back, settings-again, host-again, latest-again, tank-again, timers-again, recent-again}
+use Rattle.numbers.specs.Numbers.{numberBytes, bytesTaken}
+use Rattle.area_parts.specs.Parts.{settingsWidths, hostWidths, latestWidths, tankWidths, timersWidths, recentWidths, settingsBytes, hostBytes, latestBytes, tankBytes, timersBytes, recentBytes, isHost, isTank, recentIn}
+use Rattle.numbers.proofs.Numbers.{bytes-between, number-again}
+use Rattle.area_parts.proofs.Parts.{settings-back, host-back, host-is, latest-back, tank-back, tank-is, timers-back, recent-length, recent-back, settings-again, host-again, latest-again, tank-again, timers-again, recent-again}
 use Rattle.pack.specs.declared.Host.{Host}
 use Rattle.recent.specs.declared.Recent.{Recent}
 use Rattle.pack.specs.declared.Latest.{Latest}

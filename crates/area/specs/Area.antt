@@ -22,8 +22,8 @@ use mathlib.Core.List.{List, _++_}
 use lib.Dec.{eqb, leb}
 use lib.ListN.{length}
 use Rattle.rooms.specs.Rooms.{between}
-use Rattle.area.specs.Numbers.{numberBytes, numberAt, bytesTaken}
-use Rattle.area.specs.Parts.{settingsWidths, hostWidths, latestWidths, tankWidths, timersWidths, recentWidths, settingsBytes, hostBytes, latestBytes, tankBytes, timersBytes, recentBytes, settingsIn, hostIn, latestIn, tankIn, timersIn, recentIn, isHost, isTank}
+use Rattle.numbers.specs.Numbers.{numberBytes, numberAt, bytesTaken}
+use Rattle.area_parts.specs.Parts.{settingsWidths, hostWidths, latestWidths, tankWidths, timersWidths, recentWidths, settingsBytes, hostBytes, latestBytes, tankBytes, timersBytes, recentBytes, settingsIn, hostIn, latestIn, tankIn, timersIn, recentIn, isHost, isTank}
 use Rattle.area.specs.declared.Loaded.{Loaded}
 use Rattle.pack.specs.SetUp.{zeroState}
 use Rattle.pack.specs.declared.State.{State}
@@ -87,21 +87,25 @@ isArea area =
 
 -- ---- the two entries
 
+-- document 01's number where bytes hold no sound state
+abbrev pub noState : ℕ
+noState = 1
+
 -- a state, and that it was loaded
 abbrev pub loaded : State → Loaded
 loaded s = record { answer = 0; state = s }
 
--- 0 and the state of an area; other bytes hold no sound state: 1 and the all-zero state
+-- 0 and the state of an area; of other bytes no state, and the all-zero one
 unfoldable pub loadedOf : List ℕ → Loaded
-loadedOf area = cond (isArea area) (loaded (stateIn area)) (record { answer = 1; state = zeroState })
+loadedOf area = cond (isArea area) (loaded (stateIn area)) (record { answer = noState; state = zeroState })
 
 -- a state goes into room for an area, if its count of kept samples is a byte
 abbrev pub storable : State → List ℕ → Bool
 storable s room = eqb (length room) areaLength && leb (s .pack .recent .count) 255
 
--- 0 where it goes in, else 1
+-- 0 where it goes in
 abbrev pub storedOf : State → List ℕ → ℕ
-storedOf s room = cond (storable s room) 0 1
+storedOf s room = cond (storable s room) 0 noState
 
 -- the room afterwards: the state's area, or as it was
 unfoldable pub storedRoom : State → List ℕ → List ℕ

@@ -9,9 +9,9 @@ use lib.ListN.{replicate}
 use Rattle.rooms.specs.Rooms.{Bytes, between}
 use Rattle.area.specs.Area.{settingsAt, hostAt, latestAt, tankAt, timersAt, recentAt, areaLength, areaOf, stateIn}
 use Rattle.recent.specs.Fits.{Below}
-use Rattle.area.specs.Numbers.{numbersAt}
-use Rattle.area.specs.Parts.{settingsBytes, hostBytes, latestBytes, tankBytes, timersBytes, recentBytes, recentIn}
-use Rattle.area.proofs.Numbers.{bytes-between, number-fits}
+use Rattle.numbers.specs.Numbers.{numbersAt}
+use Rattle.area_parts.specs.Parts.{settingsBytes, hostBytes, latestBytes, tankBytes, timersBytes, recentBytes, recentIn}
+use Rattle.numbers.proofs.Numbers.{bytes-between, number-fits}
 use Rattle.area.proofs.Whole.{held, read-back}
 use Rattle.area_laws.specs.Laws.{AreasTell, HeldInArea, StatesTell, SoundGoesIn, ErrorFirst}
 use Rattle.pack.proofs.Soundness.{count-of-sound}

@@ -6,7 +6,7 @@ use mathlib.Core.List.{List, []}
 use mathlib.Core.Path.{_≡_, refl, ap, ap₂, sym, _∙_}
 use lib.Dec.{eqb}
 use lib.ListN.{length}
-use Rattle.bus.specs.Transact.{packSide, packWritten, packAfter, outcome, asked, requestGiven, transactAnswer, transactReply, transactOf, replyRoom}
+use Rattle.bus.specs.Transact.{packSide, packAfter, outcome, asked, requestGiven, transactAnswer, transactReply, transactOf, replyRoom}
 use Rattle.bus.specs.declared.Transacted.{Transacted}
 use Rattle.commands.proofs.Answers as commands
 use Rattle.commands.specs.Answers.{requestAnswer, served, sideReply, rowReply}
@@ -19,6 +19,7 @@ use Rattle.pack.specs.Sound.{soundOf}
 use Rattle.pack.specs.declared.Pack.{Pack}
 use Rattle.pack.specs.declared.State.{State}
 use Rattle.rooms.specs.Rooms.{placed}
+use Rattle.written.specs.Written.{packWritten}
 
 -- ---- the answer
 

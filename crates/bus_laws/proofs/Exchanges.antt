@@ -6,7 +6,7 @@ use native.Mathlib.Omega.{arith}
 use lib.ListN.{take, drop}
 use Rattle.bus.specs.Transact.{transactAnswer, transactReply}
 use Rattle.bus_laws.specs.Calls.{Call, visit, Exchanged}
-use Rattle.bus_laws.specs.Promises.{PackReplied, PackPasses, PackLength, PackApart, PackMisheard}
+use Rattle.bus_laws.specs.Promises.{PackReplied, PackPasses, PackAccepted, PackLength, PackApart, PackMisheard}
 use Rattle.commands_laws.proofs.Visits as visits
 use Rattle.commands_laws.specs.Visits.{VisitExchanged}
 use Rattle.gauge_laws.proofs.Range.{word-below}
@@ -22,6 +22,10 @@ served-reply s c command r v = visits.served-reply (visit s c) command r v
 pub exchange-passes : PackPasses
 unfolding transactAnswer transactReply
 exchange-passes s c command r v = visits.exchange-passes (visit s c) command r v
+
+pub exchange-accepted : PackAccepted
+unfolding transactAnswer transactReply
+exchange-accepted s c command r v = visits.exchange-accepted (visit s c) command r v (block-short (c .service) (c .factory) command)
 
 pub exchange-length : PackLength
 unfolding transactAnswer transactReply

@@ -1,8 +1,9 @@
 pub mod Served
 pub mod Soundness
+pub mod Fits
 pub mod Kept
 pub mod Exchanges
 pub mod ReadBack
 pub mod EveryRow
+pub mod WrongReadings
 pub mod Status
-pub mod OneOutcome

@@ -1,4 +1,4 @@
--- What is written is read back.
+-- What is written is read back, and the others of 00 to 04 are as they were.
 -- Assumes nothing.
 use Prim.Native.Nat.{ℕ, zero, suc, _+_, _*_, _/_, _%_, _≤_, _<_}
 use mathlib.Core.Bool.{Bool, true, false, cond, _||_, true≢false}
@@ -7,23 +7,26 @@ use native.Mathlib.Omega.{arith}
 use borrow.Author.Tests.{ne-eqb, le-leb, leb-true}
 use lib.Dec.{leb, eqb}
 use Rattle.bus.proofs.Answers.{by-outcome}
-use Rattle.bus.specs.Transact.{packSide, bitSet, hostWritten, packWritten}
+use Rattle.bus.specs.Transact.{packSide, packAfter, transactOf}
 use Rattle.bus.specs.declared.Transacted.{Transacted}
 use Rattle.bus_laws.proofs.Exchanges.{served-reply}
 use Rattle.bus_laws.proofs.Served.{past-two, read-answer, writes-asked, write-answer}
 use Rattle.bus_laws.specs.Calls.{answer, keptWord}
-use Rattle.bus_laws.specs.Promises.{WrittenRead, ThreeBits}
-use Rattle.commands.specs.Answers.{readAnswer, writeAnswer, served, readBody}
+use Rattle.bus_laws.specs.Promises.{WrittenRead, ThreeBits, OthersStay, ModeConvertsNothing}
+use Rattle.commands.specs.Answers.{readAnswer, writeAnswer, served, codeAfter, readBody}
 use Rattle.commands.specs.Commands.{from, kindOf}
 use Rattle.commands.specs.declared.Kind.{Kind}
 use Rattle.commands.specs.declared.Kind.the-variants.{ReadWrite, ReadOnly, Block, Optional, Reserved}
 use Rattle.frame.specs.Transactions.{replyOf, wordBody}
+use Rattle.frame.specs.declared.Request.{Request}
 use Rattle.frame.specs.declared.Request.the-variants.{Write}
 use Rattle.gauge.specs.Word.{wordOf, wordAnswer}
+use Rattle.gauge_laws.proofs.Words as words
 use Rattle.pack.specs.Sound.{soundOf}
 use Rattle.pack.specs.declared.Pack.{Pack}
 use Rattle.pack.specs.declared.State.{State}
 use Rattle.registers.specs.Registers.{bit}
+use Rattle.written.specs.Written.{bitSet, hostWritten, packWritten}
 
 -- ---- a served write is one to 00 to 04
 
@@ -122,3 +125,34 @@ written-read s w t r command word writes taken sound pack-left reads room =
 
     word-kept : wordOf t command ≡ keptWord command word
     word-kept = ap (λ (p : Pack). wordOf (record { error = t .error; pack = p }) command) pack-kept ∙ kept (s .pack) (t .error) command word five
+
+-- ---- the others of 00 to 04 are as they were
+
+other-words : (p : Pack) (code left written word command : ℕ) → command ≤ 4 → (command ≡ written → ⊥)
+    → wordOf (record { error = left; pack = packWritten p written word }) command ≡ wordOf (record { error = code; pack = p }) command
+unfolding wordOf packWritten hostWritten
+other-words p code left written word zero l n = simp (ne-eqb written 0 (λ e. n (sym e)))
+other-words p code left written word (suc zero) l n = simp (ne-eqb written 1 (λ e. n (sym e)))
+other-words p code left written word (suc (suc zero)) l n = simp (ne-eqb written 2 (λ e. n (sym e)))
+other-words p code left written word (suc (suc (suc zero))) l n = simp (ne-eqb written 3 (λ e. n (sym e)))
+other-words p code left written word (suc (suc (suc (suc zero)))) l n = simp (ne-eqb written 4 (λ e. n (sym e)))
+other-words p code left written word (suc (suc (suc (suc (suc m))))) l n = absurd (omega (arith, l))
+
+same-words : (p : Pack) (code left command : ℕ) → command ≤ 4 → wordOf (record { error = left; pack = p }) command ≡ wordOf (record { error = code; pack = p }) command
+same-words p code left command l = words.other-words _ _ command refl (λ e. omega (arith, e, l))
+
+pub others-stay : OthersStay
+unfolding transactOf
+others-stay s c written word command w l n =
+    ap (λ (q : Request). wordOf (record { error = left; pack = packAfter (s .pack) q (answer s c) }) command) (writes-asked c written word w)
+    ∙ by-answer (served (answer s c))
+  where
+    left : ℕ
+    left = codeAfter (answer s c) (s .error)
+
+    by-answer : (v : Bool) → wordOf (record { error = left; pack = cond v (packWritten (s .pack) written word) (s .pack) }) command ≡ wordOf s command
+    by-answer true = other-words (s .pack) (s .error) left written word command l n
+    by-answer false = same-words (s .pack) (s .error) left command l
+
+pub mode-converts-nothing : ModeConvertsNothing
+mode-converts-nothing s c word command w l n = others-stay s c 0x03 word command w l n

@@ -4,7 +4,6 @@ use Prim.Native.Nat.{ℕ, _≤_}
 use mathlib.Core.Bool.{true, true≢false}
 use mathlib.Core.Logic.{inl, inr}
 use mathlib.Core.Path.{_≡_, refl, sym, ap, _∙_}
-use lib.ListN.{length}
 use Rattle.bus.proofs.Answers.{refused-outcome, refusal}
 use Rattle.bus.specs.Transact.{packSide, packAfter, asked, transactAnswer, transactOf}
 use Rattle.bus.specs.declared.Transacted.{Transacted}

@@ -5,7 +5,7 @@ use mathlib.Core.Bool.{Bool, true, false, cond, true≢false}
 use mathlib.Core.Path.{_≡_, refl, sym}
 use native.Mathlib.Omega.{arith}
 use lib.Dec.{eqb}
-use Rattle.bus.specs.Transact.{bitSet, hostWritten, timersWritten, packWritten, packAfter, asked, transactOf}
+use Rattle.bus.specs.Transact.{packAfter, asked, transactOf}
 use Rattle.bus_laws.specs.Calls.{answer}
 use Rattle.bus_laws.specs.Promises.{SoundStays}
 use Rattle.commands.specs.Answers.{codeAfter, served}
@@ -16,23 +16,24 @@ use Rattle.pack.specs.Sound.{timersSound, soundOf}
 use Rattle.pack.specs.declared.Host.{Host}
 use Rattle.pack.specs.declared.Timers.{Timers}
 use Rattle.pack.specs.declared.State.{State}
+use Rattle.written.specs.Written.{bitSet, hostWritten, timersWritten, packWritten}
 
-either : (b : Bool) (x y : ℕ) → x ≤ 7 → y ≤ 7 → cond b x y ≤ 7
-either true x y f g = f
-either false x y f g = g
+either : (most : ℕ) (b : Bool) (x y : ℕ) → x ≤ most → y ≤ most → cond b x y ≤ most
+either most true x y f g = f
+either most false x y f g = g
 
--- the table leaves a code of at most 7
-code-most : (n before : ℕ) → before ≤ 7 → codeAfter n before ≤ 7
+-- the table leaves a code of at most 7, or what was there
+pub code-most : (most n before : ℕ) → 7 ≤ most → before ≤ most → codeAfter n before ≤ most
 unfolding codeAfter
-code-most n before h =
-    either (eqb n 0) _ _ (omega arith)
-    (either (eqb n 4) _ _ (omega arith)
-    (either (eqb n 5) _ _ (omega arith)
-    (either (eqb n 6) _ _ (omega arith)
-    (either (eqb n 7) _ _ (omega arith)
-    (either (eqb n 8) _ _ (omega arith)
-    (either (eqb n 9) _ _ (omega arith)
-    (either (eqb n 10) _ _ (omega arith) h)))))))
+code-most most n before m h =
+    either most (eqb n 0) _ _ (omega arith)
+    (either most (eqb n 4) _ _ (omega (arith, m))
+    (either most (eqb n 5) _ _ (omega (arith, m))
+    (either most (eqb n 6) _ _ (omega (arith, m))
+    (either most (eqb n 7) _ _ (omega (arith, m))
+    (either most (eqb n 8) _ _ (omega (arith, m))
+    (either most (eqb n 9) _ _ (omega (arith, m))
+    (either most (eqb n 10) _ _ (omega (arith, m)) h)))))))
 
 -- ---- a write to 03 or not (here), with bit 13 or 14 (b), over a timer (t) and a mode bit (m)
 
@@ -94,7 +95,7 @@ sound-stays s c h = go (asked (c .read) (c .bytes))
     code = codeAfter (answer s c) (s .error)
 
     small : code ≤ 7
-    small = code-most (answer s c) (s .error) (code-of-sound s h)
+    small = code-most 7 (answer s c) (s .error) (omega arith) (code-of-sound s h)
 
     by-write : (command word : ℕ) (v : Bool) → soundOf (record { error = code; pack = cond v (packWritten (s .pack) command word) (s .pack) }) ≡ true
     by-write command word true = written-sound s command word code small h

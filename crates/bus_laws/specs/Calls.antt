@@ -6,18 +6,18 @@ use mathlib.Core.List.{List, _++_}
 use mathlib.Core.Logic.{_⊎_}
 use mathlib.Core.Path.{_≡_}
 use lib.Dec.{eqb}
-use lib.ListN.{length}
-use Rattle.bus.specs.Transact.{packSide, bitSet, transactAnswer, transactReply, transactOf, replyRoom}
+use Rattle.bus.specs.Transact.{packSide, transactAnswer, transactReply, transactOf}
 use Rattle.bus.specs.declared.Transacted.{Transacted}
 use Rattle.commands.specs.Answers.{served}
 use Rattle.commands_laws.specs.Visits.{Visit}
-use Rattle.frame.specs.Transactions.{readBytes}
+use Rattle.frame.specs.Transactions.{readBytes, replyOf, wordBody}
 use Rattle.frame_laws.specs.Requests.{WriteBytes}
 use Rattle.gauge.specs.Word.{wordOf}
 use Rattle.pack.specs.Fits.{PackFits}
 use Rattle.pack.specs.declared.State.{State}
 use Rattle.registers.specs.Registers.{bit}
 use Rattle.rooms.specs.Rooms.{Bytes}
+use Rattle.written.specs.Written.{bitSet}
 
 -- what is given beside the state: both sheets, the driver's mark and bytes, and the length of the lent reply room
 pub record Call : Type 0 where
@@ -56,6 +56,12 @@ Reads c command = (c .read ≡ true) × (c .bytes ≡ readBytes 0x16 command)
 abbrev pub Writes : Call → ℕ → ℕ → Type 0
 Writes c command word = (c .read ≡ false) × ((checked : Bool) × WriteBytes 0x16 command word checked (c .bytes))
 
+-- to a call a command is read only, with that word: a right read is answered 0 and shows it, a right write is answered 8
+abbrev pub ReadsOnly : State → Call → ℕ → ℕ → Type 0
+ReadsOnly s c command word =
+    (Reads c command → (answer s c ≡ 0) × (reply s c ≡ replyOf (c .bytes) (wordBody word)))
+    × ((written : ℕ) → Writes c command written → answer s c ≡ 8)
+
 -- no register but the error bits differs: every word but BatteryStatus, and BatteryStatus but for its low four bits
 pub record SameRegisters (s t : State) : Type 0 where
   pub words : (command : ℕ) → (command ≡ 0x16 → ⊥) → wordOf t command ≡ wordOf s command
@@ -75,8 +81,3 @@ pub record Exchanged (s : State) (c : Call) : Type 0 where
   pub fits : PackFits (s .pack)
   pub service : Bytes (c .service)
   pub factory : Bytes (c .factory)
-
--- what the contract of `transact` says of its result and of the room's final content
-abbrev pub Allowed : State → List ℕ → List ℕ → Bool → List ℕ → List ℕ → Transacted → List ℕ → Type 0
-Allowed s service factory read bytes room r left =
-    (r ≡ transactOf s service factory read bytes (length room)) × (left ≡ replyRoom s service factory read bytes room)

@@ -2,12 +2,11 @@
 -- Assumes nothing.
 use Prim.Native.Nat.{ℕ, _*_, _/_, _%_, _≤_, _<_}
 use mathlib.Core.Bool.{Bool, true, false, cond}
-use mathlib.Core.List.{List, _++_}
+use mathlib.Core.List.{List, _∷_, _++_}
 use mathlib.Core.Path.{_≡_}
 use lib.ListN.{length, getD}
 use Rattle.bus.specs.Transact.{outcome, transactOf, replyRoom}
-use Rattle.bus.specs.declared.Transacted.{Transacted}
-use Rattle.bus_laws.specs.Calls.{Call, result, answer, reply, visit, exchange, Idle, Reads, Writes, SameRegisters, keptWord, Exchanged, Allowed}
+use Rattle.bus_laws.specs.Calls.{Call, result, answer, reply, visit, exchange, Idle, Reads, Writes, ReadsOnly, SameRegisters, keptWord, Exchanged}
 use Rattle.bus_laws.specs.Rows.{readRows, writeRows}
 use Rattle.commands.specs.Answers.{codeAfter, served}
 use Rattle.commands.specs.Commands.{kindOf}
@@ -15,12 +14,15 @@ use Rattle.commands.specs.Lengths.{Lengths}
 use Rattle.commands.specs.declared.Kind.the-variants.{Optional}
 use Rattle.commands_laws.specs.Visits.{visitBody}
 use Rattle.frame.specs.Transactions.{readBytes, replyOf, wordBody}
-use Rattle.frame_laws.specs.Exchanges.{FarApart}
+use Rattle.frame_laws.specs.Exchanges.{Accepts, FarApart}
 use Rattle.gauge.specs.Word.{wordOf}
+use Rattle.pack.specs.Fits.{Fits}
 use Rattle.pack.specs.Sound.{soundOf}
 use Rattle.pack.specs.declared.State.{State}
 use Rattle.pec.specs.Messages.{Right, bitsApart}
 use Rattle.pec_laws.specs.Faults.{Pair}
+use Rattle.times.specs.Times.{runTimeToEmpty, averageTimeToEmpty, averageTimeToFull}
+use Rattle.rooms.specs.Rooms.{Bytes}
 use Rattle.sheet.specs.Block.{goodSheets}
 
 -- ---- rows
@@ -37,6 +39,20 @@ WriteRow =
     (s : State) (c : Call) (command word : ℕ) → command < 256 → soundOf s ≡ true → 34 ≤ c .room → Writes c command word
     → answer s c ≡ getD writeRows command 0
 
+-- ---- wrong readings shut out
+
+-- 11 to 13 are the pack's own times, and no commands of a charger
+abbrev pub NoChargerCommands : Type 0
+NoChargerCommands =
+    (s : State) (c : Call) → soundOf s ≡ true → 34 ≤ c .room
+    → ReadsOnly s c 0x11 (runTimeToEmpty (s .pack)) × ReadsOnly s c 0x12 (averageTimeToEmpty (s .pack)) × ReadsOnly s c 0x13 (averageTimeToFull (s .pack))
+
+-- what is sent to any other address, the charger's 0x12 among them, is answered 3
+abbrev pub OtherAddresses : Type 0
+OtherAddresses =
+    (s : State) (c : Call) (address : ℕ) (rest : List ℕ) → soundOf s ≡ true → 34 ≤ c .room
+    → c .bytes ≡ address ∷ rest → (address ≡ 0x16 → ⊥) → answer s c ≡ 3
+
 -- ---- replies and exchanges
 
 -- a served read of a command is replied to with its body and the PEC over request and body
@@ -45,9 +61,13 @@ PackReplied =
     (s : State) (c : Call) (command : ℕ) → Reads c command → served (answer s c) ≡ true
     → reply s c ≡ replyOf (c .bytes) (visitBody (visit s c) command)
 
--- request followed by reply passes the exchange check
+-- request followed by reply is right
 abbrev pub PackPasses : Type 0
 PackPasses = (s : State) (c : Call) (command : ℕ) → Reads c command → served (answer s c) ≡ true → Right (exchange s c)
+
+-- and the exchange check accepts it
+abbrev pub PackAccepted : Type 0
+PackAccepted = (s : State) (c : Call) (command : ℕ) → Reads c command → served (answer s c) ≡ true → Accepts (exchange s c)
 
 -- it has the length of the command's row; no optional command is served
 abbrev pub PackLength : Type 0
@@ -95,6 +115,10 @@ IdleRegisters = (s : State) (c : Call) → Idle s c → SameRegisters s (result 
 abbrev pub SoundStays : Type 0
 SoundStays = (s : State) (c : Call) → soundOf s ≡ true → soundOf (result s c .state) ≡ true
 
+-- every call leaves fields that hold what their types let them hold
+abbrev pub FitsStays : Type 0
+FitsStays = (s : State) (c : Call) → Fits s → Bytes (c .bytes) → Fits (result s c .state)
+
 -- a BatteryStatus read shows the code before it, in the low four bits
 abbrev pub StatusShows : Type 0
 StatusShows =
@@ -133,9 +157,14 @@ WrittenRead =
 abbrev pub ThreeBits : Type 0
 ThreeBits = (word : ℕ) → word < 65536 → keptWord 0x03 word ≡ word / 8192 * 8192
 
--- ---- two outcomes that the contract of `transact` allows are equal
+-- a write leaves the others of 00 to 04 as they were, taken or refused
+abbrev pub OthersStay : Type 0
+OthersStay =
+    (s : State) (c : Call) (written word command : ℕ) → Writes c written word → command ≤ 4 → (command ≡ written → ⊥)
+    → wordOf (result s c .state) command ≡ wordOf s command
 
-abbrev pub OneOutcome : Type 0
-OneOutcome =
-    (s : State) (service factory : List ℕ) (read : Bool) (bytes room : List ℕ) (r q : Transacted) (left other : List ℕ)
-    → Allowed s service factory read bytes room r left → Allowed s service factory read bytes room q other → (r ≡ q) × (left ≡ other)
+-- so a mode change doesn't convert what the host wrote
+abbrev pub ModeConvertsNothing : Type 0
+ModeConvertsNothing =
+    (s : State) (c : Call) (word command : ℕ) → Writes c 0x03 word → command ≤ 4 → (command ≡ 0x03 → ⊥)
+    → wordOf (result s c .state) command ≡ wordOf s command

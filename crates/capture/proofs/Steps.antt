@@ -10,7 +10,8 @@ use borrow.Author.Tests.{lt-ltb, le-ltb, le-leb, lt-leb, leb-true}
 use Rattle.capture.specs.declared.Step.{Step}
 use Rattle.capture.specs.declared.Step.the-variants.{Next, End, NotCapture}
 use Rattle.capture.specs.Capture.{isCapture, countIn, markIn, lengthIn}
-use Rattle.capture.specs.Walk.{openedOf, hasRow, stepAt, bodyAt}
+use Rattle.rooms.specs.Rooms.{further}
+use Rattle.capture.specs.Walk.{openedOf, hasRow, stepAt, bodyAt, bodyPlace}
 use Rattle.capture.proofs.Check.{place-start}
 
 module _ (s : List ℕ) where
@@ -81,18 +82,23 @@ within s row place =
     within-cond (hasRow s row place) (isCapture s) (markIn s row) (row + 1) place (place + lengthIn s row) (length s)
     (λ h. (omega arith, leb-true (place + lengthIn s row) (length s) (and-eq-true-iff (isCapture s && ltb row (countIn s)) (leb (place + lengthIn s row) (length s)) .0 h .1)))
 
-module _ (s : List ℕ) (row place : ℕ) {t : Step} (is : t ≡ stepAt s row place) where
-  pub body-shown : {m r p : ℕ} → t ≡ Next m r p → take (p - place) (drop place s) ≡ bodyAt s row place
-  unfolding stepAt
+module _ (s : List ℕ) (row place : ℕ) (first : ℕ × ℕ) {t : Step} (is : t ≡ stepAt s row place) where
+  -- the part from the place to the next place is the body, and starts at the place
+  pub body-shown : {m r p : ℕ} → t ≡ Next m r p → (take (p - place) (drop place s) ≡ bodyAt s row place) × (further place first ≡ bodyPlace s row place first)
+  unfolding stepAt bodyPlace
   body-shown {m} {r} {p} e =
       let h = next-has (hasRow s row place) (isCapture s) (markIn s row) (row + 1) (place + lengthIn s row) (sym is ∙ e) in
       let n : p - place ≡ lengthIn s row = omega arith in
-      ap (λ (k : ℕ). take k (drop place s)) n ∙ sym (body-next s row place (h .0))
+      (ap (λ (k : ℕ). take k (drop place s)) n ∙ sym (body-next s row place (h .0)), sym (ap (λ (b : Bool). further (cond b place 0) first) (h .0)))
 
-  pub body-end : t ≡ End → [] ≡ bodyAt s row place
-  unfolding stepAt
-  body-end e = body-none s row place (end-has (hasRow s row place) (isCapture s) (markIn s row) (row + 1) (place + lengthIn s row) (sym is ∙ e))
+  none-shown : hasRow s row place ≡ false → ([] ≡ bodyAt s row place) × (further 0 first ≡ bodyPlace s row place first)
+  unfolding bodyPlace
+  none-shown h = (body-none s row place h, sym (ap (λ (b : Bool). further (cond b place 0) first) h))
 
-  pub body-not : t ≡ NotCapture → [] ≡ bodyAt s row place
+  pub body-end : t ≡ End → ([] ≡ bodyAt s row place) × (further 0 first ≡ bodyPlace s row place first)
   unfolding stepAt
-  body-not e = body-none s row place (not-has (hasRow s row place) (isCapture s) (markIn s row) (row + 1) (place + lengthIn s row) (sym is ∙ e))
+  body-end e = none-shown (end-has (hasRow s row place) (isCapture s) (markIn s row) (row + 1) (place + lengthIn s row) (sym is ∙ e))
+
+  pub body-not : t ≡ NotCapture → ([] ≡ bodyAt s row place) × (further 0 first ≡ bodyPlace s row place first)
+  unfolding stepAt
+  body-not e = none-shown (not-has (hasRow s row place) (isCapture s) (markIn s row) (row + 1) (place + lengthIn s row) (sym is ∙ e))

@@ -4,6 +4,7 @@ use mathlib.Core.List.{List, [], _∷_}
 use Prim.Native.Nat.{ℕ, zero, suc, _+_}
 use lib.Dec.{leb, ltb}
 use lib.ListN.{length, take, drop}
+use Rattle.rooms.specs.Rooms.{further}
 use Rattle.capture.specs.declared.Opened.{Opened}
 use Rattle.capture.specs.declared.Step.{Step}
 use Rattle.capture.specs.declared.Step.the-variants.{Next, End, NotCapture}
@@ -31,7 +32,11 @@ stepAt s row place =
 unfoldable pub bodyAt : List ℕ → ℕ → ℕ → List ℕ
 bodyAt s row place = cond (hasRow s row place) (take (lengthIn s row) (drop place s)) []
 
--- document 01's number for each case of a step
+-- the place in memory where that part starts, from the capture's: the row's place further on; of no bytes, the capture's first
+unfoldable pub bodyPlace : List ℕ → ℕ → ℕ → ℕ × ℕ → ℕ × ℕ
+bodyPlace s row place first = further (cond (hasRow s row place) place 0) first
+
+-- 01's number of each case of a step: a row and an end are served, 14 is for bytes that aren't a capture
 abbrev pub answerOf : Step → ℕ
 answerOf (Next mark row place) = 0
 answerOf End = 0

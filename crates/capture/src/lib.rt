@@ -1,8 +1,9 @@
 // Captures: what bytes are one, its rows and its walk.
 use rooms::wide;
 ghost use mathlib.Core.Path.{_≡_};
+ghost use denote.Ref.{ptr};
 ghost use Rattle.capture.specs.Capture.{isCapture};
-ghost use Rattle.capture.specs.Walk.{openedOf, stepAt, bodyAt};
+ghost use Rattle.capture.specs.Walk.{openedOf, stepAt, bodyAt, bodyPlace};
 
 // What a capture holds: its number of rows, and the place of the first.
 pub struct Opened {
@@ -88,9 +89,10 @@ pub fn step_at(s: &[u8], row: usize, place: usize) -> Step
     Step::Next(s[2 * row + 1], row + 1, place + n)
 }
 
-// The row's body: a part of the capture.
+// The row's body: a part of the capture, of no bytes at its front where there is no such row.
 pub fn body_at(s: &[u8], row: usize, place: usize) -> &[u8]
     ensures { λ r. ⌜ now r ≡ bodyAt (now (s .entry)) row place ⌝ }
+    ensures { λ r. ⌜ ptr r ≡ bodyPlace (now (s .entry)) row place (ptr (s .entry)) ⌝ }
 {
     match step_at(s, row, place) {
         Step::Next(_, _, next) => &s[place..next],

@@ -1,17 +1,17 @@
 -- What the writer writes: the capture of the rows given. Assumes nothing.
 use mathlib.Core.Path.{_≡_, refl, sym, ap, _∙_}
-use mathlib.Core.Bool.{true, false, _&&_, and-eq-true-iff}
+use mathlib.Core.Bool.{Bool, true, false, cond, _&&_, and-eq-true-iff}
 use mathlib.Core.List.{List, [], _∷_, _++_}
 use Prim.Native.Nat.{ℕ, suc, _+_, _*_, _≤_}
 use native.Mathlib.Omega.{arith}
 use lib.Dec.{leb, eqb}
 use lib.ListN.{length, take, drop, set, length-append, length-take, length-drop, take-append-drop}
 use lib.Seq.{sets}
-use borrow.Author.Tests.{leb-true, eqb-true}
+use borrow.Author.Tests.{leb-true, eqb-true, ne-eqb}
 use Rattle.rooms.specs.Rooms.{wrote}
 use Rattle.rooms.proofs.Rooms.{then, front}
 use Rattle.capture.specs.Capture.{tableOf, rowBodies}
-use Rattle.capture_writer.specs.Writer.{rowsGiven, interleaved, pairsFit, sum, givenFit, roomAsked, captureGiven, captureWrote, captureRoom}
+use Rattle.capture_writer.specs.Writer.{rowsGiven, interleaved, pairsFit, sum, givenFit, roomAsked, captureGiven, captureAnswer, captureWrote, captureRoom}
 
 -- what the writer's test finds
 pub record Given (marks sizes bodies : List ℕ) : Type 0 where
@@ -60,15 +60,18 @@ given-bodies (m ∷ marks) (l ∷ sizes) bodies e t =
     rw (given-bodies marks sizes (drop l bodies) (omega arith) b) (take-append-drop l bodies)
 
 module _ (marks sizes bodies room : List ℕ) where
-  pub refused-room : leb (roomAsked marks sizes bodies) (length room) ≡ false
-      → (wrote 2 0 ≡ captureWrote marks sizes bodies room) × (room ≡ captureRoom marks sizes bodies room)
+  pub refused : (a : ℕ) → a ≡ captureAnswer marks sizes bodies (length room) → (a ≡ 0 → ⊥) → (wrote a 0 ≡ captureWrote marks sizes bodies room) × (room ≡ captureRoom marks sizes bodies room)
   unfolding captureWrote captureRoom
-  refused-room e = (simp e, simp e)
+  refused a e ne = let f = ne-eqb (captureAnswer marks sizes bodies (length room)) 0 (λ z. ne (e ∙ z)) in (rw f (ap (λ (n : ℕ). wrote n 0) e), rw f)
 
-  pub refused-rows : leb (roomAsked marks sizes bodies) (length room) ≡ true → givenFit marks sizes bodies ≡ false
-      → (wrote 14 0 ≡ captureWrote marks sizes bodies room) × (room ≡ captureRoom marks sizes bodies room)
-  unfolding captureWrote captureRoom
-  refused-rows e f = (simp (e, f), simp (e, f))
+  -- an answer of 0: the room is long enough, and the rows fit
+  pub allowed : (a : ℕ) → a ≡ captureAnswer marks sizes bodies (length room) → a ≡ 0 → (leb (roomAsked marks sizes bodies) (length room) ≡ true) × (givenFit marks sizes bodies ≡ true)
+  allowed a e z = by-tests (leb (roomAsked marks sizes bodies) (length room)) (givenFit marks sizes bodies) (sym e ∙ z)
+    where
+      by-tests : (b c : Bool) → _≡_ {A = ℕ} (cond b (cond c 0 14) 2) 0 → (b ≡ true) × (c ≡ true)
+      by-tests true true h = (refl, refl)
+      by-tests true false h = absurd (omega arith)
+      by-tests false c h = absurd (omega arith)
 
   -- the capture, as it is stored
   given-is : Given marks sizes bodies → captureGiven marks sizes bodies ≡ length marks ∷ (interleaved marks sizes ++ bodies)
@@ -79,12 +82,12 @@ module _ (marks sizes bodies room : List ℕ) where
 
   pub served : leb (roomAsked marks sizes bodies) (length room) ≡ true → givenFit marks sizes bodies ≡ true
       → {r₁ r₂ : List ℕ} → r₁ ≡ sets (set room 0 (length marks)) 1 (interleaved marks sizes) → r₂ ≡ sets r₁ (2 * length marks + 1) bodies
-      → (wrote 0 (2 * length marks + 1 + length bodies) ≡ captureWrote marks sizes bodies room) × (r₂ ≡ captureRoom marks sizes bodies room)
+      → (a : ℕ) → a ≡ 0 → (wrote a (2 * length marks + 1 + length bodies) ≡ captureWrote marks sizes bodies room) × (r₂ ≡ captureRoom marks sizes bodies room)
   unfolding captureWrote captureRoom
-  served e f {r₁} {r₂} h₁ h₂ =
+  served e f {r₁} {r₂} h₁ h₂ a z =
       let g = given marks sizes bodies f in
       let n = given-length g in
       let at : 2 * length marks + 1 ≡ 0 + length (length marks ∷ interleaved marks sizes) = omega (arith, interleaved-length marks sizes (g .even)) in
       let stored = h₂ ∙ then room 0 (2 * length marks + 1) (length marks ∷ interleaved marks sizes) bodies h₁ at ∙ ap (sets room 0) (sym (given-is g)) in
       let fits : length (captureGiven marks sizes bodies) ≤ length room = omega (arith, leb-true (roomAsked marks sizes bodies) (length room) e, g .even) in
-      (simp (e, f) (ap (wrote 0) (sym n)), simp (e, f) (stored ∙ front (captureGiven marks sizes bodies) room fits))
+      (simp (e, f, z) (ap (wrote 0) (sym n)), simp (e, f) (stored ∙ front (captureGiven marks sizes bodies) room fits))

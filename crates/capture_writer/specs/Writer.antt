@@ -41,17 +41,17 @@ roomAsked marks sizes bodies = 1 + length marks + length sizes + length bodies
 abbrev pub captureGiven : List ℕ → List ℕ → List ℕ → List ℕ
 captureGiven marks sizes bodies = captureOf (rowsGiven marks sizes bodies)
 
--- 2: the room is too short; 14: no rows of a capture; else 0
-abbrev pub captureAnswer : List ℕ → List ℕ → List ℕ → List ℕ → ℕ
-captureAnswer marks sizes bodies room = cond (leb (roomAsked marks sizes bodies) (length room)) (cond (givenFit marks sizes bodies) 0 14) 2
+-- of a room of so many bytes. 2: it is too short; 14: no rows of a capture; else 0
+abbrev pub captureAnswer : List ℕ → List ℕ → List ℕ → ℕ → ℕ
+captureAnswer marks sizes bodies room = cond (leb (roomAsked marks sizes bodies) room) (cond (givenFit marks sizes bodies) 0 14) 2
 
 -- the answer, and the capture's length if it was written
 unfoldable pub captureWrote : List ℕ → List ℕ → List ℕ → List ℕ → Wrote
 captureWrote marks sizes bodies room =
-    cond (eqb (captureAnswer marks sizes bodies room) 0)
+    cond (eqb (captureAnswer marks sizes bodies (length room)) 0)
     (wrote 0 (length (captureGiven marks sizes bodies)))
-    (wrote (captureAnswer marks sizes bodies room) 0)
+    (wrote (captureAnswer marks sizes bodies (length room)) 0)
 
 -- the capture at the front; else all stays
 unfoldable pub captureRoom : List ℕ → List ℕ → List ℕ → List ℕ → List ℕ
-captureRoom marks sizes bodies room = cond (eqb (captureAnswer marks sizes bodies room) 0) (placed (captureGiven marks sizes bodies) room) room
+captureRoom marks sizes bodies room = cond (eqb (captureAnswer marks sizes bodies (length room)) 0) (placed (captureGiven marks sizes bodies) room) room

@@ -7,7 +7,7 @@ ghost use Prim.Native.Nat.{_+_, _*_, _<_};
 ghost use lib.Dec.{leb};
 ghost use lib.ListN.{length};
 ghost use lib.Seq.{sets};
-ghost use Rattle.capture_writer.specs.Writer.{interleaved, givenFit, captureWrote, captureRoom};
+ghost use Rattle.capture_writer.specs.Writer.{interleaved, givenFit, captureAnswer, captureWrote, captureRoom};
 
 // Whether a room holds a first byte, marks, lengths and bodies, of so many bytes each.
 fn holds(room: usize, marks: usize, lengths: usize, bodies: usize) -> bool
@@ -52,6 +52,19 @@ fn fit(marks: &[u8], lengths: &[u8], bodies: &[u8]) -> bool
     total == bodies.len()
 }
 
+// 2 for a room that is too short, 14 for rows that make no capture, else 0.
+fn answer_for(room: usize, marks: &[u8], lengths: &[u8], bodies: &[u8]) -> u8
+    ensures { λ r. ⌜ r ≡ captureAnswer (now (marks .entry)) (now (lengths .entry)) (now (bodies .entry)) room ⌝ }
+{
+    if !holds(room, marks.len(), lengths.len(), bodies.len()) {
+        return 2;
+    }
+    if !fit(marks, lengths, bodies) {
+        return 14;
+    }
+    0
+}
+
 // The rows of mark and length, from the room's second byte on.
 fn put_rows(marks: &[u8], lengths: &[u8], room: &mut [u8])
     requires { ⌜ (length (now lengths) ≡ length (now marks)) × (2 * length (now marks) < length (now room)) ⌝ }
@@ -72,17 +85,9 @@ pub fn write_capture(marks: &[u8], lengths: &[u8], bodies: &[u8], room: &mut [u8
     ensures { λ r. ⌜ r ≡ captureWrote (now (marks .entry)) (now (lengths .entry)) (now (bodies .entry)) (now (room .entry)) ⌝ }
     ensures { λ _. ⌜ now (room .exit) ≡ captureRoom (now (marks .entry)) (now (lengths .entry)) (now (bodies .entry)) (now (room .entry)) ⌝ }
 {
-    if !holds(room.len(), marks.len(), lengths.len(), bodies.len()) {
-        return Wrote {
-            answer: 2,
-            length: 0,
-        };
-    }
-    if !fit(marks, lengths, bodies) {
-        return Wrote {
-            answer: 14,
-            length: 0,
-        };
+    let answer = answer_for(room.len(), marks, lengths, bodies);
+    if answer != 0 {
+        return Wrote { answer, length: 0 };
     }
     let n = marks.len();
     let place = 2 * n + 1;
@@ -90,7 +95,7 @@ pub fn write_capture(marks: &[u8], lengths: &[u8], bodies: &[u8], room: &mut [u8
     put_rows(marks, lengths, room);
     put_bytes(room, place, bodies);
     Wrote {
-        answer: 0,
+        answer,
         length: place + bodies.len(),
     }
 }

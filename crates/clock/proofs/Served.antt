@@ -4,8 +4,9 @@ use Prim.Native.Nat.{ℕ, _/_}
 use mathlib.Core.Bool.{true}
 use mathlib.Core.Path.{_≡_, ap, _∙_}
 use lib.ListN.{length}
-use Rattle.clock.proofs.Sending.{quarter}
-use Rattle.clock.specs.Broadcast.{alarmGoes, chargerGoes, broadcastOf, sampledOf, servedSample}
+use Rattle.broadcasts.proofs.Sending.{quarter}
+use Rattle.broadcasts.specs.Broadcasts.{alarmGoes, chargerGoes, broadcastOf}
+use Rattle.clock.specs.Broadcast.{sampledOf, servedSample}
 use Rattle.clock.specs.Sample.{movedOf, elapsedOf}
 use Rattle.clock.specs.declared.Sampled.{Sampled}
 use Rattle.pack.specs.SetUp.{latestOf}

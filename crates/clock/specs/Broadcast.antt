@@ -1,44 +1,19 @@
--- Document 01, Clock and broadcasts: what is sent, in order, and what a sample answers.
+-- Document 01, Clock and broadcasts: what a sample leaves, answers and broadcasts.
 -- Assumes nothing.
-use Prim.Native.Nat.{ℕ, _+_}
-use mathlib.Core.Bool.{Bool, cond, not, _&&_}
-use mathlib.Core.List.{List, [], _++_}
-use lib.Dec.{ltb, leb}
+use Prim.Native.Nat.{ℕ}
+use mathlib.Core.Bool.{cond, not}
+use mathlib.Core.List.{List}
+use lib.Dec.{ltb}
 use lib.ListN.{length}
 use Rattle.clock.specs.Sample.{movedOf}
 use Rattle.clock.specs.declared.Sampled.{Sampled}
-use Rattle.frame.specs.Broadcasts.{messageOf}
-use Rattle.gauge.specs.Status.{anyAlarm, chargerAlarm, alarmWord, chargingCurrent}
+use Rattle.broadcasts.specs.Broadcasts.{alarmGoes, chargerGoes, broadcastOf, messagesOf}
 use Rattle.pack.specs.Sound.{soundOf}
 use Rattle.pack.specs.declared.Pack.{Pack}
 use Rattle.pack.specs.declared.Sample.{Sample}
 use Rattle.pack.specs.declared.State.{State}
 use Rattle.rooms.specs.Rooms.{placed}
 use Rattle.timers.specs.Countdown.{restartedOf}
-
--- alarms go when any of the bits is set, ALARM_MODE is clear and 10,000 ms have passed since the last alarm
-unfoldable pub alarmGoes : Pack → Bool
-alarmGoes p = anyAlarm p && not (p .host .AlarmMode) && leb 10000 (p .timers .alarm)
-
--- charger words go each 30,000 ms while CHARGER_MODE is clear
-unfoldable pub chargerGoes : Pack → Bool
-chargerGoes p = not (p .host .ChargerMode) && leb 30000 (p .timers .charger)
-
--- AlarmWarning `10 16`, and `12 16` if bit 15, 14 or 12 is set
-unfoldable pub alarmsOf : Pack → List ℕ
-alarmsOf p = cond (alarmGoes p) (messageOf 0x10 0x16 (alarmWord p) ++ cond (chargerAlarm p) (messageOf 0x12 0x16 (alarmWord p)) []) []
-
--- the `12 14` and `12 15` words
-unfoldable pub chargerWordsOf : Pack → List ℕ
-chargerWordsOf p = cond (chargerGoes p) (messageOf 0x12 0x14 (chargingCurrent p) ++ messageOf 0x12 0x15 (p .settings .ChargingVoltage)) []
-
--- messages, in order
-abbrev pub broadcastOf : Pack → List ℕ
-broadcastOf p = alarmsOf p ++ chargerWordsOf p
-
--- how many messages that is
-abbrev pub messagesOf : Pack → ℕ
-messagesOf p = cond (alarmGoes p) (1 + cond (chargerAlarm p) 1 0) 0 + cond (chargerGoes p) 2 0
 
 -- the pack after a sample
 unfoldable pub sampledOf : Pack → Sample → Pack

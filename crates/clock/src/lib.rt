@@ -1,15 +1,12 @@
 // A sample: charge, kept samples, bit 4, hold and timers move on; then come the broadcasts.
 ghost use mathlib.Core.Path.{_≡_};
-ghost use mathlib.Core.Bool.{true, cond};
-ghost use mathlib.Core.List.{[]};
-ghost use Prim.Native.Nat.{_+_, _≤_};
+ghost use mathlib.Core.Bool.{true};
+ghost use Prim.Native.Nat.{_≤_};
 ghost use lib.ListN.{length};
-ghost use lib.Seq.{sets};
 ghost use Rattle.clock.specs.Sample.{elapsedOf, movedOf};
-ghost use Rattle.clock.specs.Broadcast.{alarmGoes, chargerGoes, alarmsOf, chargerWordsOf, broadcastOf, servedSample, sampleOf, broadcastRoom};
-ghost use Rattle.frame.specs.Broadcasts.{messageOf};
+ghost use Rattle.broadcasts.specs.Broadcasts.{broadcastOf};
+ghost use Rattle.clock.specs.Broadcast.{servedSample, sampleOf, broadcastRoom};
 ghost use Rattle.pack.specs.Sound.{tankSound, timersSound, soundOf};
-ghost use Rattle.recent.specs.Recent.{recentSound};
 ghost use Rattle.rooms.specs.Rooms.{placed};
 use pack::Latest;
 use pack::Pack;
@@ -53,57 +50,6 @@ fn moved(p: Pack, s: Sample) -> Pack
     }
 }
 
-fn alarm_goes(p: Pack) -> bool
-    requires { ⌜ (tankSound (p .tank) ≡ true) × (recentSound (p .recent) ≡ true) ⌝ }
-    ensures { λ r. ⌜ r ≡ alarmGoes p ⌝ }
-{
-    gauge::any_alarm(p) & !p.host.AlarmMode & (10000 <= p.timers.alarm)
-}
-
-fn charger_goes(p: Pack) -> bool
-    ensures { λ r. ⌜ r ≡ chargerGoes p ⌝ }
-{
-    !p.host.ChargerMode & (30000 <= p.timers.charger)
-}
-
-// A message where it goes; the place after it.
-fn put_if(goes: bool, room: &mut [u8], at: usize, address: u8, command: u8, word: u16) -> usize
-    requires { ⌜ at + 4 ≤ length (now room) ⌝ }
-    ensures length { λ r. ⌜ r ≡ at + length (cond goes (messageOf address command word) []) ⌝ }
-    ensures memory { λ r. ⌜ now (room .exit) ≡ sets (now (room .entry)) at (cond goes (messageOf address command word) []) ⌝ }
-{
-    if goes {
-        return frame::put_message(room, at, address, command, word);
-    }
-    at
-}
-
-// The host hears of every alarm, the charger of those that concern it.
-fn send_alarms(p: Pack, goes: bool, room: &mut [u8]) -> usize
-    requires { ⌜ (tankSound (p .tank) ≡ true) × (recentSound (p .recent) ≡ true) × (goes ≡ alarmGoes p) × (16 ≤ length (now room)) ⌝ }
-    ensures length { λ r. ⌜ r ≡ length (alarmsOf p) ⌝ }
-    ensures memory { λ r. ⌜ now (room .exit) ≡ sets (now (room .entry)) 0 (alarmsOf p) ⌝ }
-{
-    if !goes {
-        return 0;
-    }
-    let word = gauge::alarm_word(p);
-    let next = frame::put_message(room, 0, 0x10, 0x16, word);
-    put_if(gauge::charger_alarm(p), room, next, 0x12, 0x16, word)
-}
-
-fn send_charger_words(p: Pack, goes: bool, room: &mut [u8], at: usize) -> usize
-    requires { ⌜ (goes ≡ chargerGoes p) × (at + 8 ≤ length (now room)) ⌝ }
-    ensures length { λ r. ⌜ r ≡ at + length (chargerWordsOf p) ⌝ }
-    ensures memory { λ r. ⌜ now (room .exit) ≡ sets (now (room .entry)) at (chargerWordsOf p) ⌝ }
-{
-    if !goes {
-        return at;
-    }
-    let next = frame::put_message(room, at, 0x12, 0x14, gauge::charging_current(p));
-    frame::put_message(room, next, 0x12, 0x15, p.settings.ChargingVoltage)
-}
-
 // A sample on a sound state with room enough.
 fn serve(s: State, sample: Sample, room: &mut [u8]) -> Sampled
     requires { ⌜ (soundOf s ≡ true) × (16 ≤ length (now room)) ⌝ }
@@ -111,10 +57,10 @@ fn serve(s: State, sample: Sample, room: &mut [u8]) -> Sampled
     ensures memory { λ r. ⌜ now (room .exit) ≡ placed (broadcastOf (movedOf (s .pack) sample)) (now (room .entry)) ⌝ }
 {
     let mut p = moved(s.pack, sample);
-    let alarm = alarm_goes(p);
-    let charger = charger_goes(p);
-    let at = send_alarms(p, alarm, room);
-    let length = send_charger_words(p, charger, room, at);
+    let alarm = broadcasts::alarm_goes(p);
+    let charger = broadcasts::charger_goes(p);
+    let at = broadcasts::send_alarms(p, alarm, room);
+    let length = broadcasts::send_charger_words(p, charger, room, at);
     let timers = timers::restarted(p.timers, alarm, charger);
     p.timers = timers;
     let state = State {

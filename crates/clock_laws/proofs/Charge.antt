@@ -4,13 +4,14 @@ use Prim.Native.Nat.{ℕ, zero, suc, _+_, _-_, _*_, _<_, _≤_, min}
 use mathlib.Core.Path.{_≡_, refl, ap, _∙_, sym}
 use native.Mathlib.Omega.{arith}
 use borrow.Author.Tests.{lt-ltb, le-ltb, le-leb, lt-leb}
-use lib.IntN.{ℤ, pos, negsuc, negℤ, subℕ, _+ℤ_, _*ℤ_}
+use lib.IntN.{ℤ, pos, negℤ, subℕ, _+ℤ_, _*ℤ_}
 use mir.Syntax.{w16}
-use mir.Val.{toZ, ofZ, SFits}
+use mir.Val.{toZ, ofZ}
 use mir.ValLaws.{toZ-ofZ}
 use Rattle.tank.specs.Charge.{chargeAfter}
 use Rattle.clock_laws.specs.Promises.{ChargeTrue}
 use Rattle.clock_laws.specs.Steps.{heldTo}
+use Rattle.pack.proofs.Start.{word-fits}
 use Rattle.words.proofs.Integers.{split}
 use Rattle.capacity.specs.Capacity.{milliampMs}
 
@@ -42,11 +43,6 @@ charge-step charge full word elapsed w l =
     simp (le-leb 32768 word h, le-ltb word 32768 h)
     (held-down (milliampMs full) charge ((65536 - word) * elapsed) l
     ∙ ap (heldTo (pos (milliampMs full))) (minus charge ((65536 - word) * elapsed) ∙ ap (λ (k : ℕ). pos charge +ℤ negℤ (pos (k * elapsed))) size)))
-
--- the word of a signed 16-bit number
-word-fits : (z : ℤ) → SFits w16 z → ofZ w16 z < 65536
-word-fits (pos n) f = let h : n < 32768 = f .sfits in omega arith
-word-fits (negsuc n) f = omega arith
 
 -- a sample adds current × elapsed, held between 0 and full
 pub charge-true : ChargeTrue

@@ -7,8 +7,9 @@ use mathlib.Core.Path.{_≡_, refl}
 use native.Mathlib.Omega.{arith}
 use lib.Dec.{ltb}
 use lib.ListN.{length, drop}
-use Rattle.clock.proofs.Sending.{four-each, at-most-16}
-use Rattle.clock.specs.Broadcast.{broadcastOf, sampleOf, servedSample, refusedSample, broadcastRoom}
+use Rattle.broadcasts.proofs.Sending.{four-each, at-most-16}
+use Rattle.broadcasts.specs.Broadcasts.{broadcastOf}
+use Rattle.clock.specs.Broadcast.{sampleOf, servedSample, refusedSample, broadcastRoom}
 use Rattle.clock.specs.Sample.{movedOf}
 use Rattle.clock_laws.specs.Promises.{FourBytesEach, SixteenAtMost, RestStays}
 use Rattle.clock_laws.proofs.Sound.{outcome}

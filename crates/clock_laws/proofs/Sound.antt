@@ -7,7 +7,8 @@ use native.Mathlib.Omega.{arith}
 use borrow.Author.Tests.{eq-eqb, eqb-true, leb-false, not-false}
 use lib.Dec.{eqb, leb, ltb}
 use Rattle.tank.proofs.Charge as tank
-use Rattle.clock.specs.Broadcast.{alarmGoes, chargerGoes, sampledOf, sampleOf, servedSample, refusedSample}
+use Rattle.broadcasts.specs.Broadcasts.{alarmGoes, chargerGoes}
+use Rattle.clock.specs.Broadcast.{sampledOf, sampleOf, servedSample, refusedSample}
 use Rattle.clock.specs.Sample.{elapsedOf, movedOf}
 use Rattle.clock.specs.declared.Sampled.{Sampled}
 use Rattle.clock_laws.specs.Promises.{SampleSound, ErrorStays}

@@ -6,11 +6,12 @@ use mathlib.Core.Path.{_≡_, refl, ap, _∙_}
 use native.Mathlib.Omega.{arith}
 use borrow.Author.Tests.{leb-true}
 use lib.Dec.{leb, eqb}
-use Rattle.clock.specs.Broadcast.{alarmGoes, chargerGoes, sampledOf}
+use Rattle.broadcasts.specs.Broadcasts.{alarmGoes, chargerGoes}
+use Rattle.clock.specs.Broadcast.{sampledOf}
 use Rattle.clock.specs.Sample.{movedOf}
 use Rattle.clock_laws.specs.Promises.{SilentInAlarmMode, SilentInChargerMode}
 use Rattle.clock_laws.specs.Steps.{gap, Timed}
-use Rattle.gauge.specs.Status.{anyAlarm}
+use Rattle.status.specs.Status.{anyAlarm}
 use Rattle.pack.specs.declared.Pack.{Pack}
 use Rattle.pack.specs.declared.Sample.{Sample}
 

@@ -8,9 +8,11 @@ use lib.IntN.{pos, _+ℤ_, _*ℤ_}
 use lib.ListN.{length, drop}
 use mir.Syntax.{w16}
 use mir.Val.{SFits}
-use Rattle.clock.specs.Broadcast.{alarmGoes, chargerGoes, sampleOf, broadcastRoom}
+use Rattle.broadcasts.specs.Broadcasts.{alarmGoes, chargerGoes}
+use Rattle.clock.specs.Broadcast.{sampleOf, broadcastRoom}
 use Rattle.clock.specs.Sample.{elapsedOf}
 use Rattle.clock_laws.specs.Steps.{heldTo}
+use Rattle.pack.specs.Fits.{Fits, SampleFits}
 use Rattle.pack.specs.SetUp.{latestOf}
 use Rattle.pack.specs.Sound.{soundOf}
 use Rattle.pack.specs.declared.Pack.{Pack}
@@ -22,6 +24,10 @@ use Rattle.capacity.specs.Capacity.{milliampMs}
 -- 1. a sample on a sound state leaves a sound state, refused or not
 abbrev pub SampleSound : Type 0
 SampleSound = (s : State) (x : Sample) (n : ℕ) → soundOf s ≡ true → soundOf (sampleOf s x n .state) ≡ true
+
+-- a sample leaves fields that hold what their types let them hold, refused or not
+abbrev pub SampledFits : Type 0
+SampledFits = (s : State) (x : Sample) (n : ℕ) → Fits s → SampleFits x → Fits (sampleOf s x n .state)
 
 -- samples leave the error code as it was
 abbrev pub ErrorStays : Type 0

@@ -3,21 +3,21 @@
 use Prim.Native.Nat.{ℕ, _≤_, _<_}
 use mathlib.Core.Bool.{Bool, true, false, cond, true≢false}
 use mathlib.Core.List.{List, [], _++_}
-use mathlib.Core.Path.{_≡_, refl, sym, ap, ap₂, _∙_, subst, subst₂}
+use mathlib.Core.Path.{_≡_, refl, sym, ap, _∙_, subst, subst₂}
 use native.Mathlib.Omega.{arith}
 use borrow.Author.Tests.{ltb-true, ltb-false}
 use lib.Dec.{ltb}
 use lib.ListN.{length, getD}
 use Rattle.commands.proofs.Answers.{unsound, small-room, past-two}
-use Rattle.commands.specs.Answers.{Side, readAnswer, writeAnswer, requestAnswer, served, readBody, sideReply}
+use Rattle.commands.specs.Answers.{readAnswer, writeAnswer, requestAnswer, served, readBody, sideReply}
 use Rattle.commands.specs.Lengths.{Lengths}
 use Rattle.commands.specs.declared.Kind.{Kind}
 use Rattle.commands.specs.declared.Kind.the-variants.{ReadWrite, ReadOnly, Block, Optional, Reserved}
-use Rattle.commands_laws.specs.Visits.{Visit, visitAsked, visitAnswer, visitReply, visitBody, visitExchange, Heard, VisitReads, VisitWrites, ServedHeard, ReadByRow, WriteByRow, ReadInRows, WriteInRows, ServedReply, ExchangePasses, ExchangeLength, VisitExchanged, ExchangesApart, VisitMisheard}
+use Rattle.commands_laws.specs.Visits.{Visit, visitAsked, visitAnswer, visitBody, visitExchange, Heard, VisitReads, ServedHeard, ReadByRow, WriteByRow, ReadInRows, WriteInRows, ServedReply, ExchangePasses, ExchangeLength, ExchangeAccepted, VisitExchanged, ExchangesApart, VisitMisheard}
 use Rattle.frame.specs.Transactions.{readBytes, replyOf}
 use Rattle.frame.specs.declared.Request.{Request}
-use Rattle.frame.specs.declared.Request.the-variants.{Read, Write}
-use Rattle.frame_laws.proofs.Replies.{exchange-right, word-exchange, block-exchange, word-bytes, block-bytes, command-misheard, two-exchanges}
+use Rattle.frame.specs.declared.Request.the-variants.{Read}
+use Rattle.frame_laws.proofs.Replies.{accepts-right, exchange-right, word-exchange, block-exchange, word-bytes, block-bytes, command-misheard, two-exchanges}
 use Rattle.frame_laws.proofs.Requests.{read-is, write-is}
 use Rattle.frame_laws.specs.Exchanges.{exchangeOf, FarApart}
 use Rattle.pec.proofs.Table.{value-at}
@@ -97,6 +97,19 @@ exchange-length v command r h short =
     go ReadOnly e = (λ q. true≢false (ap built q), word-exchange (v .side .address) command (v .side .word command))
     go Optional e = absurd (true≢false (sym e))
     go Reserved e = absurd (true≢false (sym e))
+
+-- a row's exchanges have 2 to 37 bytes, but for optional commands'
+two-to-37 : (k : Kind) (n : ℕ) → (k ≡ Optional → ⊥) × Lengths k n → (2 ≤ n) × (n ≤ 37)
+two-to-37 ReadWrite n (built-in, l) = (omega (arith, l), omega (arith, l))
+two-to-37 ReadOnly n (built-in, l) = (omega (arith, l), omega (arith, l))
+two-to-37 Block n (built-in, l) = (omega (arith, l .0), l .1)
+two-to-37 Optional n (built-in, l) = absurd (built-in refl)
+two-to-37 Reserved n (built-in, l) = absurd l
+
+pub exchange-accepted : ExchangeAccepted
+exchange-accepted v command r h short =
+    let n = two-to-37 (v .side .kinds command) (length (visitExchange v)) (exchange-length v command r h short) in
+    accepts-right (visitExchange v) (n .0) (n .1) .1 (exchange-passes v command r h)
 
 -- ---- exchanges
 

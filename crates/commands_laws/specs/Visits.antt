@@ -10,7 +10,7 @@ use Rattle.commands.specs.Lengths.{Lengths}
 use Rattle.commands.specs.declared.Kind.the-variants.{Optional}
 use Rattle.frame.specs.Transactions.{requestOf, readBytes, replyOf}
 use Rattle.frame.specs.declared.Request.{Request}
-use Rattle.frame_laws.specs.Exchanges.{FarApart}
+use Rattle.frame_laws.specs.Exchanges.{Accepts, FarApart}
 use Rattle.frame_laws.specs.Requests.{WriteBytes}
 use Rattle.pec.specs.Table.{valuesBelow}
 use Rattle.pec.specs.Messages.{Right}
@@ -86,7 +86,7 @@ ServedReply =
     (v : Visit) (command : ℕ) → VisitReads v command → served (visitAnswer v) ≡ true
     → visitReply v ≡ replyOf (v .bytes) (visitBody v command)
 
--- request followed by reply passes the exchange check
+-- request followed by reply is right
 abbrev pub ExchangePasses : Type 0
 ExchangePasses = (v : Visit) (command : ℕ) → VisitReads v command → served (visitAnswer v) ≡ true → Right (visitExchange v)
 
@@ -95,6 +95,11 @@ abbrev pub ExchangeLength : Type 0
 ExchangeLength =
     (v : Visit) (command : ℕ) → VisitReads v command → served (visitAnswer v) ≡ true → length (v .side .block command) ≤ 32
     → (v .side .kinds command ≡ Optional → ⊥) × Lengths (v .side .kinds command) (length (visitExchange v))
+
+-- and the exchange check accepts it
+abbrev pub ExchangeAccepted : Type 0
+ExchangeAccepted =
+    (v : Visit) (command : ℕ) → VisitReads v command → served (visitAnswer v) ≡ true → length (v .side .block command) ≤ 32 → Accepts (visitExchange v)
 
 -- ---- exchanges
 

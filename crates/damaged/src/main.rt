@@ -1,6 +1,9 @@
 // Sheets and captures, good and damaged, one for each fault: what each answers is printed.
 use capture::Step;
 use libc::STDOUT_FILENO;
+use reader::Reader;
+ghost use mathlib.Core.Path.{_≡_};
+ghost use Rattle.reader.specs.Reading.{startOf, stepOf, afterOf, moved};
 
 fn print_byte(b: u8) {
     io::print_hex(STDOUT_FILENO, b as u64, 2);
@@ -200,6 +203,40 @@ fn read(bytes: &[u8]) {
     }
 }
 
+// What a reader is at: a row's mark and body, the end, or bytes that aren't a capture.
+fn print_shown(step: Step, body: &[u8]) {
+    match step {
+        Step::Next(mark, _, _) => {
+            io::print_decimal(STDOUT_FILENO, mark as u64);
+            io::write_all(STDOUT_FILENO, b" ");
+            print_bytes(body);
+        }
+        Step::End => print_line(b"end"),
+        Step::NotCapture => print_number(14),
+    }
+}
+
+// The row that a reader is at is printed, and the reader goes on.
+fn turn<'a>(r: Reader<'a>) -> Reader<'a>
+    ensures { λ q. ⌜ q ≡ afterOf (r .entry) ⌝ }
+{
+    print_shown(reader::next(r), reader::body(r));
+    reader::after(r)
+}
+
+// What a reader is at after three rows, each printed.
+fn past_three(bytes: &[u8]) -> Step
+    ensures { λ s. ⌜ s ≡ stepOf (moved 3 (startOf (bytes .entry))) ⌝ }
+{
+    reader::next(turn(turn(turn(reader::start(bytes)))))
+}
+
+// A capture of up to three rows, as a reader walks it to its end.
+fn walk(bytes: &[u8]) {
+    print_line(b"a reader:");
+    print_shown(past_three(bytes), b"");
+}
+
 // The answer and the length; then the whole room.
 fn write_capture(marks: &[u8], lengths: &[u8], bodies: &[u8], room: &mut [u8]) {
     let wrote = capture_writer::write_capture(marks, lengths, bodies, room);
@@ -234,7 +271,9 @@ fn read_damaged_example() {
         0,
     ];
     read(&whole[0..20]);
+    walk(&whole[0..20]);
     read(&whole[0..19]);
+    walk(&whole[0..19]);
     read(&whole[0..21]);
     read(&whole[0..6]);
     read(&whole[0..1]);
@@ -246,6 +285,7 @@ fn read_bounds() {
     read(&[0u8]);
     read(&[1u8, 2, 0]);
     read(&[2u8, 1, 0, 0, 1, 0xAA]);
+    walk(&[2u8, 1, 0, 0, 1, 0xAA]);
     read(&[255u8, 0, 0]);
     let mut longest = [0u8; 40];
     longest[0] = 1;

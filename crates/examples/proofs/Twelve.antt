@@ -2,13 +2,13 @@
 -- Assumes nothing.
 use mathlib.Core.Path.{refl}
 use Rattle.recent.specs.Recent.{averageOf, sumOf}
-use Rattle.bus.specs.Transact.{hostWritten, packWritten}
 use Rattle.examples.specs.Examples.{examples, AsExpected}
 use Rattle.gauge.specs.Word.{wordOf}
 use Rattle.key.specs.Key.{keyOf, hexWord}
 use Rattle.pack.specs.SetUp.{packOf}
 use Rattle.pec.specs.Pec.{pecOf, pecFrom, byteStep, bitStep}
 use Rattle.registers.specs.Registers.{remainingCapacity}
+use Rattle.written.specs.Written.{hostWritten, packWritten}
 
 pub twelve : AsExpected
 unfolding examples averageOf sumOf hostWritten packWritten wordOf keyOf hexWord packOf pecOf pecFrom byteStep bitStep remainingCapacity

@@ -8,13 +8,13 @@ use lib.ListN.{replicate}
 use mir.Syntax.{w16}
 use mir.Val.{ofZ}
 use Rattle.recent.specs.Recent.{averageOf}
-use Rattle.bus.specs.Transact.{packWritten}
 use Rattle.clock.specs.Sample.{elapsedOf}
 use Rattle.gauge.specs.Word.{wordOf}
 use Rattle.key.specs.Key.{keyOf, dateWord}
 use Rattle.pack.specs.SetUp.{packOf}
 use Rattle.pack.specs.declared.Pack.{Pack}
 use Rattle.pec.specs.Pec.{pecOf}
+use Rattle.written.specs.Written.{packWritten}
 
 -- what is computed, and what document 01 says; a number is a list of one
 pub record Example : Type 0 where

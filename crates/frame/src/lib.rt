@@ -45,7 +45,7 @@ pub fn recognise(address: u8, read: bool, bytes: &[u8]) -> Request
     if n != 5 {
         return Request::Refused(4);
     }
-    if bytes[4] != pec::pec(&bytes[..4]) {
+    if bytes[4] != pec::pec(&bytes[0..4]) {
         return Request::Refused(5);
     }
     write_of(bytes, true)

@@ -1,23 +1,24 @@
 -- Every reply is right, at its length; it tells what it carries; and a command misheard shows up.
 -- Assumes nothing.
 use mathlib.Core.Path.{_≡_, refl, sym, ap, ap₂, _∙_, subst}
-use mathlib.Core.Bool.{true}
+use mathlib.Core.Bool.{Bool, true}
 use mathlib.Core.List.{List, [], _∷_, _++_, append-assoc}
 use Prim.Native.Nat.{ℕ, _+_, _-_, _≤_, _<_}
 use native.Mathlib.Omega.{arith}
-use borrow.Author.Tests.{eq-eqb, eqb-true}
+use borrow.Author.Tests.{eq-eqb, eqb-true, le-ltb}
 use lib.Dec.{eqb}
 use lib.ListN.{length, getD, take, length-append}
 use lib.Seq.{getD-at, take-at}
 use Rattle.pec.specs.Pec.{pecOf}
-use Rattle.pec.specs.Messages.{endsInPec, Right}
+use Rattle.pec.specs.Messages.{endsInPec, Right, exchangeCheck}
+use Rattle.pec.specs.declared.Checked.{Checked}
 use Rattle.pec.proofs.Bounds.{pec-lt}
 use Rattle.pec_laws.specs.Faults.{Rights}
 use Rattle.rooms.specs.Rooms.{Bytes}
 use Rattle.pec_laws.proofs.Theorems.{misheard, four-bits, even-bits, no-burst, two-bits-to-37}
 use Rattle.frame.specs.Transactions.{readBytes, withPec, wordBody, blockBody, replyOf}
 use Rattle.frame.proofs.Replies.{reply-length}
-use Rattle.frame_laws.specs.Exchanges.{exchangeOf, ExchangeRight, WordExchange, BlockExchange, WordBack, TwoExchanges, CommandMisheard}
+use Rattle.frame_laws.specs.Exchanges.{exchangeOf, AcceptsRight, ExchangeRight, WordExchange, BlockExchange, WordBack, TwoExchanges, CommandMisheard}
 
 -- ---- every reply is right
 
@@ -37,7 +38,17 @@ last-is xs p e = eqb-true p (pecOf xs) (sym (ends-in xs p) ∙ e)
 pub ends-right : (xs : List ℕ) → Right (withPec xs)
 ends-right xs = (omega (arith, length-append xs (pecOf xs ∷ [])), ends-in xs (pecOf xs) ∙ eq-eqb (pecOf xs) (pecOf xs) refl)
 
--- what a reader sent followed by what it heard passes the exchange check
+-- the exchange check of 2 to 37 bytes
+inside : (message : List ℕ) → 2 ≤ length message → length message ≤ 37 → exchangeCheck message ≡ record { answer = 0; right = endsInPec message }
+inside message h l = simp (le-ltb (length message) 2 h, le-ltb 37 (length message) l)
+
+pub accepts-right : AcceptsRight
+accepts-right message h l = (
+  λ e. (omega (arith, h), ap (λ (c : Checked). c .right) (sym (inside message h l) ∙ e)),
+  λ r. inside message h l ∙ ap (λ (b : Bool). record { answer = 0; right = b }) (r .1),
+)
+
+-- what a reader sent followed by what it heard is right
 pub exchange-right : ExchangeRight
 unfolding replyOf
 exchange-right request body = subst Right (append-assoc request body (pecOf (request ++ body) ∷ [])) (ends-right (request ++ body))

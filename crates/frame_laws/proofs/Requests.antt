@@ -1,21 +1,24 @@
 -- Which bytes and marks give which request: the numbers 3 to 5, lowest first; and a right write that was altered isn't taken.
 -- Assumes nothing.
-use mathlib.Core.Path.{_≡_, refl, sym, ap, _∙_}
+use mathlib.Core.Path.{_≡_, refl, sym, ap, _∙_, subst}
 use mathlib.Core.Bool.{Bool, true, false, cond, true≢false}
 use mathlib.Core.List.{List, [], _∷_}
 use mathlib.Core.Logic.{_⊎_, inl, inr}
-use Prim.Native.Nat.{ℕ, _+_}
+use Prim.Native.Nat.{ℕ, _+_, _<_}
 use native.Mathlib.Omega.{arith}
 use borrow.Author.Tests.{eq-eqb, eqb-true, ne-eqb, not-false}
 use lib.Dec.{eqb}
 use lib.ListN.{length, getD}
 use Rattle.pec.specs.Messages.{endsInPec}
+use Rattle.pec.specs.Pec.{pecOf}
 use Rattle.pec_laws.proofs.Theorems.{caught}
 use Rattle.frame.specs.declared.Request.{Request}
 use Rattle.frame.specs.declared.Request.the-variants.{Refused, Read, Write}
 use Rattle.frame.specs.Transactions.{foreign, misshapen, miscoded, writeOf, requestOf, readBytes, writeBytes}
-use Rattle.frame_laws.specs.Requests.{Lowest, WriteBytes, RefusedIs, ReadIs, WriteIs, Altered}
+use Rattle.frame_laws.specs.Requests.{Lowest, WriteBytes, RefusedIs, ReadIs, WriteIs, RequestFits, AskedFits, Altered}
 use Rattle.frame_laws.proofs.Replies.{ends-right, last-is}
+use Rattle.rooms.specs.Rooms.{Bytes}
+use Rattle.words.specs.Words.{joined}
 
 -- ---- the numbers, lowest first
 
@@ -124,6 +127,29 @@ write-is address read bytes command word checked =
     from : (checked : Bool) → (read ≡ false) × WriteBytes address command word checked bytes → requestOf address read bytes ≡ Write command word checked
     from false (r, (l, h, w, b)) = simp (r, b, w, eq-eqb address address refl)
     from true (r, (l, h, w, b)) = simp (r, b, w, eq-eqb address address refl, ends-right (writeBytes address command l h) .1)
+
+-- ---- what bytes ask for fits
+
+refused-small : (three four five : Bool) (n : ℕ) → Lowest three four five n → n < 256
+refused-small three four five n (inl t) = omega (arith, t .0)
+refused-small three four five n (inr (inl t)) = omega (arith, t .0)
+refused-small three four five n (inr (inr t)) = omega (arith, t .0)
+
+written-small : (address command low high word : ℕ) (more : List ℕ) → Bytes (address ∷ command ∷ low ∷ high ∷ more) → word ≡ joined low high
+    → (command < 256) × (word < 65536)
+written-small address command low high word more h w = (h .1 .0, omega (arith, w, h .1 .1 .0, h .1 .1 .1 .0))
+
+pub asked-fits : AskedFits
+asked-fits address read bytes h = go (requestOf address read bytes) refl
+  where
+    written : (checked : Bool) (command word : ℕ) → WriteBytes address command word checked bytes → (command < 256) × (word < 65536)
+    written true command word (l, u, w, b) = written-small address command l u word (pecOf (writeBytes address command l u) ∷ []) (subst Bytes b h) w
+    written false command word (l, u, w, b) = written-small address command l u word [] (subst Bytes b h) w
+
+    go : (q : Request) → requestOf address read bytes ≡ q → RequestFits q
+    go (Refused n) e = refused-small (foreign address bytes) (misshapen address read bytes) (miscoded read bytes) n (refused-is address read bytes n .0 e)
+    go (Read command) e = subst Bytes (read-is address read bytes command .0 e .1) h .1 .0
+    go (Write command word checked) e = written checked command word (write-is address read bytes command word checked .0 e .1)
 
 -- ---- a right five-byte write altered in one to three bits is never taken
 

@@ -1,12 +1,13 @@
 -- A reader's exchanges, with any request and any body: the theorems of `proofs/Replies.antt`.
 -- Assumes nothing.
 use Prim.Native.Nat.{ℕ, _+_, _-_, _%_, _≤_, _<_}
+use mathlib.Core.Bool.{true}
 use mathlib.Core.Path.{_≡_}
-use mathlib.Core.Logic.{_⊎_}
+use mathlib.Core.Logic.{_⊎_, _↔_}
 use mathlib.Core.List.{List, _++_}
 use lib.ListN.{length, getD}
 use Rattle.words.specs.Words.{joined}
-use Rattle.pec.specs.Messages.{Right, bitsApart}
+use Rattle.pec.specs.Messages.{Right, exchangeCheck, bitsApart}
 use Rattle.pec_laws.specs.Places.{Apart}
 use Rattle.rooms.specs.Rooms.{Bytes}
 use Rattle.frame.specs.Transactions.{readBytes, wordBody, blockBody, replyOf}
@@ -15,7 +16,15 @@ use Rattle.frame.specs.Transactions.{readBytes, wordBody, blockBody, replyOf}
 abbrev pub exchangeOf : List ℕ → List ℕ → List ℕ
 exchangeOf request body = request ++ replyOf request body
 
--- it passes the exchange check
+-- the exchange check accepts a message: answer 0, and right
+abbrev pub Accepts : List ℕ → Type 0
+Accepts message = exchangeCheck message ≡ record { answer = 0; right = true }
+
+-- of 2 to 37 bytes, exactly the right ones
+abbrev pub AcceptsRight : Type 0
+AcceptsRight = (message : List ℕ) → 2 ≤ length message → length message ≤ 37 → Accepts message ↔ Right message
+
+-- every exchange is right
 abbrev pub ExchangeRight : Type 0
 ExchangeRight = (request body : List ℕ) → Right (exchangeOf request body)
 

@@ -1,6 +1,6 @@
 -- Which bytes and marks give which request, at any address: the theorems of `proofs/Requests.antt`.
 -- Assumes nothing.
-use Prim.Native.Nat.{ℕ, _≤_}
+use Prim.Native.Nat.{ℕ, _≤_, _<_}
 use mathlib.Core.Path.{_≡_}
 use mathlib.Core.Bool.{Bool, true, false, cond}
 use mathlib.Core.List.{List}
@@ -9,6 +9,8 @@ use lib.ListN.{length}
 use Rattle.words.specs.Words.{joined}
 use Rattle.pec.specs.Messages.{Right, bitsApart}
 use Rattle.pec_laws.specs.Faults.{Pair}
+use Rattle.rooms.specs.Rooms.{Bytes}
+use Rattle.frame.specs.declared.Request.{Request}
 use Rattle.frame.specs.declared.Request.the-variants.{Refused, Read, Write}
 use Rattle.frame.specs.Transactions.{foreign, misshapen, miscoded, requestOf, withPec, readBytes, writeBytes}
 
@@ -41,6 +43,16 @@ abbrev pub WriteIs : Type 0
 WriteIs =
     (address : ℕ) (read : Bool) (bytes : List ℕ) (command word : ℕ) (checked : Bool)
     → (requestOf address read bytes ≡ Write command word checked) ↔ ((read ≡ false) × WriteBytes address command word checked bytes)
+
+-- a request's fields hold what their types let them hold
+abbrev pub RequestFits : Request → Type 0
+RequestFits (Refused n) = n < 256
+RequestFits (Read command) = command < 256
+RequestFits (Write command word checked) = (command < 256) × (word < 65536)
+
+-- bytes give such a request
+abbrev pub AskedFits : Type 0
+AskedFits = (address : ℕ) (read : Bool) (bytes : List ℕ) → Bytes bytes → RequestFits (requestOf address read bytes)
 
 -- a right five-byte write altered in one to three bits is never taken
 abbrev pub Altered : Type 0

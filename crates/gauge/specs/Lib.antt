@@ -1,2 +1,1 @@
-pub mod Status
 pub mod Word

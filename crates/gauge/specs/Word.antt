@@ -4,8 +4,9 @@ use Prim.Native.Nat.{ℕ}
 use mathlib.Core.Bool.{cond, _&&_}
 use lib.Dec.{eqb}
 use Rattle.recent.specs.Recent.{averageOf}
-use Rattle.registers.specs.Registers.{batteryMode, remainingCapacity, fullChargeCapacity, designCapacity, relativeStateOfCharge, absoluteStateOfCharge, atRateTimeToEmpty, atRateTimeToFull, atRateOK, runTimeToEmpty, averageTimeToEmpty, averageTimeToFull}
-use Rattle.gauge.specs.Status.{batteryStatus, chargingCurrent}
+use Rattle.registers.specs.Registers.{batteryMode, remainingCapacity, fullChargeCapacity, designCapacity, relativeStateOfCharge, absoluteStateOfCharge}
+use Rattle.times.specs.Times.{atRateTimeToEmpty, atRateTimeToFull, atRateOK, runTimeToEmpty, averageTimeToEmpty, averageTimeToFull}
+use Rattle.status.specs.Status.{batteryStatus, chargingCurrent}
 use Rattle.gauge.specs.declared.Shown.{Shown}
 use Rattle.pack.specs.declared.State.{State}
 

@@ -5,7 +5,7 @@ use mathlib.Core.Bool.{Bool, cond}
 use native.Mathlib.Omega.{arith}
 use lib.Dec.{eqb}
 use Rattle.capacity.proofs.Bounds.{either, at-most, minutes-most}
-use Rattle.gauge.specs.Status.{terminateCharge}
+use Rattle.status.specs.Status.{terminateCharge}
 use Rattle.gauge.specs.Word.{wordOf}
 use Rattle.gauge_laws.proofs.Bits.{status-most}
 use Rattle.gauge_laws.specs.Promises.{WordsBelow}
@@ -15,10 +15,12 @@ use Rattle.pack.specs.declared.Pack.{Pack}
 use Rattle.recent.proofs.Bound.{average-word}
 use Rattle.recent.specs.Recent.{averageOf}
 use Rattle.registers.proofs.Laws.{remaining-at-most-full}
-use Rattle.registers.specs.Registers.{batteryMode, capacityOf, fullChargeCapacity, remainingCapacity, designCapacity, minutesIf, missing, rateOf, covers}
+use Rattle.registers.specs.Registers.{batteryMode, capacityOf, fullChargeCapacity, remainingCapacity, designCapacity}
+use Rattle.times.specs.Times.{minutesIf, missing, rateOf, covers}
 use Rattle.words.specs.Words.{above, below, sizeOf}
 
-pick : (b : Bool) (x y : ℕ) → x < 65536 → y < 65536 → cond b x y < 65536
+-- one of two words is a word
+pub pick : (b : Bool) (x y : ℕ) → x < 65536 → y < 65536 → cond b x y < 65536
 pick = either (λ n. n < 65536)
 
 bit-most : (on : Bool) (weight : ℕ) → cond on weight 0 ≤ weight

@@ -5,7 +5,7 @@ use mathlib.Core.Bool.{Bool, true, false, cond}
 use mathlib.Core.Path.{_≡_, refl, ap, _∙_, sym, subst}
 use native.Mathlib.Omega.{arith}
 use borrow.Author.Tests.{ne-eqb}
-use Rattle.gauge.specs.Status.{terminateCharge, statusBits}
+use Rattle.status.specs.Status.{terminateCharge, statusBits}
 use Rattle.gauge.specs.Word.{wordOf}
 use Rattle.gauge_laws.proofs.Bits.{above-code, bits-stand}
 use Rattle.gauge_laws.specs.Promises.{digit, Initially, InitialWords, AlwaysInitialized, CutOff, RemainingAtMostFull}

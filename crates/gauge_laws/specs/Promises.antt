@@ -3,7 +3,7 @@
 use Prim.Native.Nat.{ℕ, _/_, _%_, _^_, _≤_, _<_}
 use mathlib.Core.Bool.{Bool, true, cond}
 use mathlib.Core.Path.{_≡_}
-use Rattle.gauge.specs.Status.{chargeFull, overTemp, overCharged, terminateCharge, terminateDischarge, remainingCapacityLow, remainingTimeLow, discharging, batteryStatus}
+use Rattle.status.specs.Status.{chargeFull, overTemp, overCharged, terminateCharge, terminateDischarge, remainingCapacityLow, remainingTimeLow, discharging, batteryStatus}
 use Rattle.gauge.specs.Word.{wordOf}
 use Rattle.pack.specs.Fits.{PackFits}
 use Rattle.pack.specs.SetUp.{setUpOf}

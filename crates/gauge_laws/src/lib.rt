@@ -1,1 +1,1 @@
-// What holds of the words, by the definitions of `registers` and `gauge`: no code, only laws.
+// What holds of the words, by the definitions of `registers`, `times` and `gauge`: no code, only laws.

@@ -1,70 +1,23 @@
--- The laws of reading a key: where its names end, and that bytes which are read as four parts are the key of these. Assumes nothing.
+-- The laws of reading a key: what is found, and that bytes which are read as four parts are the key of these. Assumes nothing.
 use mathlib.Core.Path.{_≡_, refl, sym, ap, _∙_, subst}
 use mathlib.Core.Bool.{Bool, true, false, cond, _&&_, and-eq-true-iff}
 use mathlib.Core.List.{List, [], _∷_, _++_, append-assoc}
 use mathlib.Core.Option.{Option, none, some}
 use Prim.Native.Nat.{ℕ, _+_, _-_, _≤_, _<_}
-use native.Mathlib.Nat.{zero-add}
 use native.Mathlib.Omega.{arith}
 use lib.Dec.{leb}
-use lib.ListN.{length, take, drop, length-append, length-drop}
+use lib.ListN.{length, take, drop, length-append}
 use lib.Seq.{drop-drop, drop-at, take-append-seam}
 use borrow.Author.Tests.{le-leb, leb-true}
+use Rattle.names.specs.Names.{escape, Name, bad, ended, stopped, readPlain}
+use Rattle.names.proofs.Escaping.{escape-length}
+use Rattle.names.proofs.Reading.{Is, plain-is}
+use Rattle.names.proofs.Strokes.{Named, Unnamed}
 use Rattle.key.specs.declared.Found.{Found}
-use Rattle.key.specs.Key.{escape, hexWord, keyOf, keyOfParts, Name, bad, ended, stopped, readPlain, Parts, PartsFit, afterMaker, afterDevice, readKey, readOf, makerOf, deviceOf, isWords, digitsWord}
-use Rattle.key.specs.Steps.{scannedAt, strokeOf, foundOf}
-use Rattle.key.proofs.Reading.{Is, plain-is}
-use Rattle.key.proofs.Form.{key-length, escape-length}
+use Rattle.key.specs.Key.{hexWord, keyOf, keyOfParts, Parts, PartsFit, afterMaker, afterDevice, readKey, readOf, isWords, digitsWord}
+use Rattle.key.specs.Steps.{foundOf, Names}
+use Rattle.key.proofs.Form.{key-length}
 use Rattle.key.proofs.Words.{words-sound, word-below, tail-of}
-
--- ---- a name that a stroke ends, and one that none ends
-
-pub record Named (k : List ℕ) (from b : ℕ) : Type 0 where
-  pub name : List ℕ
-  pub rest : List ℕ
-  pub reads : readPlain (drop from k) ≡ stopped name rest
-  pub short : length name ≤ 32
-  pub place : b ≡ from + length (escape name)
-  pub next : drop (b + 1) k ≡ rest
-
-abbrev pub Unnamed : Name → Type 0
-Unnamed bad = Unit
-Unnamed (ended name) = Unit
-Unnamed (stopped name rest) = leb (length name) 32 ≡ false
-
-past : (k name rest : List ℕ) (from : ℕ) → drop from k ≡ escape name ++ (0x2F ∷ rest) → drop (from + length (escape name) + 1) k ≡ rest
-past k name rest from e =
-    let z : from + length (escape name) + 1 ≡ from + (length (escape name) + 1) = omega arith in
-    let n : length (escape name ++ (0x2F ∷ [])) ≡ length (escape name) + 1 = length-append (escape name) (0x2F ∷ []) in
-    ap (λ (i : ℕ). drop i k) z ∙ sym (drop-drop (length (escape name) + 1) from k) ∙ ap (drop (length (escape name) + 1)) (e ∙ sym (append-assoc (escape name) (0x2F ∷ []) rest)) ∙ drop-at (escape name ++ (0x2F ∷ [])) rest _ n
-
-pub named : (k : List ℕ) (from b : ℕ) → b ≡ strokeOf (scannedAt (readPlain (drop from k)) from 0) (length k) → b < length k → Named k from b
-named k from b e h = go (readPlain (drop from k)) (plain-is (drop from k)) refl e
-  where
-    go : (r : Name) → Is (drop from k) r → readPlain (drop from k) ≡ r → b ≡ strokeOf (scannedAt r from 0) (length k) → Named k from b
-    go bad i f e = absurd (omega arith)
-    go (ended name) i f e = absurd (omega arith)
-    go (stopped name rest) i f e = short (leb (length name) 32) refl
-      where
-        short : (t : Bool) → leb (length name) 32 ≡ t → Named k from b
-        short true g =
-            let p : b ≡ from + length (escape name) = rw (zero-add, g) at e in
-            record { name = name; rest = rest; reads = f; short = leb-true _ _ g; place = p; next = ap (λ (j : ℕ). drop (j + 1) k) p ∙ past k name rest from i }
-        short false g = let p : b ≡ length k = rw (zero-add, g) at e in absurd (omega arith)
-
-pub unnamed : (k : List ℕ) (from b : ℕ) → b ≡ strokeOf (scannedAt (readPlain (drop from k)) from 0) (length k) → length k ≤ b → Unnamed (readPlain (drop from k))
-unnamed k from b e h = go (readPlain (drop from k)) (plain-is (drop from k)) e
-  where
-    go : (r : Name) → Is (drop from k) r → b ≡ strokeOf (scannedAt r from 0) (length k) → Unnamed r
-    go bad i e = tt
-    go (ended name) i e = tt
-    go (stopped name rest) i e = short (leb (length name) 32) refl
-      where
-        short : (t : Bool) → leb (length name) 32 ≡ t → leb (length name) 32 ≡ false
-        short false g = g
-        short true g =
-            let p : b ≡ from + length (escape name) = rw (zero-add, g) at e in
-            absurd (omega (arith, simp (length-append, length-drop) at (ap length i)))
 
 -- ---- what is found
 
@@ -170,17 +123,10 @@ pub read-found : (o : Option Parts) {f : Found} → f ≡ foundOf o → record {
 read-found none e = rw e
 read-found (some p) e = rw e
 
-pub record Shown (k : List ℕ) (o : Option Parts) : Type 0 where
-  pub maker-within : foundOf o .«maker_end» ≤ length k
-  pub maker-is : take (foundOf o .«maker_end» - 0) k ≡ makerOf o
-  pub device-order : foundOf o .«device_start» ≤ foundOf o .«device_end»
-  pub device-within : foundOf o .«device_end» ≤ length k
-  pub device-is : take (foundOf o .«device_end» - foundOf o .«device_start») (drop (foundOf o .«device_start») k) ≡ deviceOf o
-
-pub shown : (k : List ℕ) (o : Option Parts) → readKey k ≡ o → Shown k o
+names-of : (k : List ℕ) (o : Option Parts) → readKey k ≡ o → Names k (foundOf o) o
 unfolding keyOf
-shown k none e = record { maker-within = omega arith; maker-is = refl; device-order = omega arith; device-within = omega arith; device-is = refl }
-shown k (some p) e =
+names-of k none e = record { maker-is = refl; maker-ends = omega arith; device-starts = refl; device-is = refl; device-ends = omega arith; within = omega arith }
+names-of k (some p) e =
     let g = key-given k p e .1 in
     let n : length k ≡ length (escape (p .maker)) + length (escape (p .device)) + 11 = ap length g ∙ key-length (p .maker) (p .device) (p .date) (p .serial) in
     let z₀ : length (escape (p .maker)) - 0 ≡ length (escape (p .maker)) = omega arith in
@@ -190,9 +136,13 @@ shown k (some p) e =
     let d : drop (length (escape (p .maker)) + 1) k ≡ escape (p .device) ++ (0x2F ∷ tail) =
     ap (drop (length (escape (p .maker)) + 1)) (g ∙ sym (append-assoc (escape (p .maker)) (0x2F ∷ []) (escape (p .device) ++ (0x2F ∷ tail)))) ∙ drop-at (escape (p .maker) ++ (0x2F ∷ [])) _ _ l in
     record {
-      maker-within = omega arith;
       maker-is = rw z₀ (ap (take (length (escape (p .maker)))) g ∙ take-append-seam (escape (p .maker)) _);
-      device-order = omega arith;
-      device-within = omega arith;
+      maker-ends = omega arith;
+      device-starts = refl;
       device-is = rw (z, d) (take-append-seam (escape (p .device)) (0x2F ∷ tail));
+      device-ends = omega arith;
+      within = omega arith;
     }
+
+pub names-found : (k : List ℕ) {f : Found} → f ≡ foundOf (readKey k) → Names k f (readKey k)
+names-found k e = rw e (names-of k (readKey k) refl)

@@ -1,5 +1,3 @@
 pub mod Form
-pub mod Reading
 pub mod Words
 pub mod Keys
-pub mod Unescaping

@@ -1,28 +1,13 @@
 -- What the contracts of the inner functions cite; the promises are in `Key`. Assumes nothing: these are definitions.
-use mathlib.Core.Bool.{cond}
-use mathlib.Core.List.{List, []}
-use mathlib.Core.Option.{Option, none, some, Option·getD}
-use Prim.Native.Nat.{ℕ, _+_}
-use lib.Dec.{eqb, leb}
-use lib.ListN.{length, getD}
-use Rattle.key.specs.declared.Scan.{Scan}
-use Rattle.key.specs.declared.Scan.the-variants.{Refused, End, Stroke}
+use mathlib.Core.Path.{_≡_}
+use mathlib.Core.List.{List}
+use mathlib.Core.Option.{Option, none, some}
+use Prim.Native.Nat.{ℕ, _+_, _≤_}
+use lib.ListN.{length}
 use Rattle.key.specs.declared.Found.{Found}
-use Rattle.rooms.specs.declared.Wrote.{Wrote}
-use Rattle.rooms.specs.Rooms.{wrote}
-use Rattle.key.specs.Key.{Name, bad, ended, stopped, Parts, escape, unescaped}
-
--- a name that is read from the place `at` on, after n bytes of it: where its 2F stands, and its bytes counted
-abbrev pub scannedAt : Name → ℕ → ℕ → Scan
-scannedAt bad at n = Refused
-scannedAt (ended name) at n = End (n + length name)
-scannedAt (stopped name rest) at n = Stroke (at + length (escape name)) (n + length name)
-
--- where a name of up to 32 bytes ends at a 2F, and `last` where it does not
-abbrev pub strokeOf : Scan → ℕ → ℕ
-strokeOf Refused last = last
-strokeOf (End n) last = last
-strokeOf (Stroke at n) last = cond (leb n 32) at last
+use Rattle.rooms.specs.Rooms.{between}
+use Rattle.names.specs.Names.{escape}
+use Rattle.key.specs.Key.{Parts, makerOf, deviceOf, deviceStart}
 
 -- answer, words, and the places of both names
 abbrev pub foundOf : Option Parts → Found
@@ -37,16 +22,11 @@ foundOf (some p) =
       serial = p .serial;
     }
 
--- answer and length of a plain name that the last byte ends
-abbrev pub countOf : Scan → Wrote
-countOf Refused = wrote 13 0
-countOf (End n) = wrote 0 n
-countOf (Stroke at n) = wrote 13 0
-
--- the plain name, or no bytes
-abbrev pub plainOf : List ℕ → List ℕ
-plainOf bytes = Option·getD (unescaped bytes) []
-
--- the place of the byte that an escape mark at `at` hands on, or `at` itself
-abbrev pub pastMark : List ℕ → ℕ → ℕ
-pastMark part at = cond (eqb (getD part at 0) 0x5C) (at + 1) at
+-- what stands at the places found in the bytes k, which are read as o: both names
+pub record Names (k : List ℕ) (f : Found) (o : Option Parts) : Type 0 where
+  pub maker-is : between k 0 (f .«maker_end») ≡ makerOf o
+  pub maker-ends : f .«maker_end» ≤ f .«device_start»
+  pub device-starts : f .«device_start» ≡ deviceStart o
+  pub device-is : between k (f .«device_start») (f .«device_end») ≡ deviceOf o
+  pub device-ends : f .«device_start» ≤ f .«device_end»
+  pub within : f .«device_end» ≤ length k

@@ -56,7 +56,7 @@ fn read(bytes: &[u8]) {
 // An escaped name, written plain into a room of four bytes: answer, length, and the room.
 fn plain(part: &[u8]) {
     let mut room = [0x2Eu8; 4];
-    let wrote = key::unescape(part, &mut room);
+    let wrote = names::unescape(part, &mut room);
     io::write_all(OUT, b" ");
     io::print_decimal(OUT, wrote.answer as u64);
     io::write_all(OUT, b" ");

@@ -8,8 +8,9 @@ use native.Mathlib.Omega.{arith}
 use lib.Dec.{ltb}
 use lib.ListN.{length, getD, drop, length-append}
 use borrow.Author.Tests.{le-leb, lt-leb, lt-ltb, ltb-true, ltb-false, eq-eqb}
-use Rattle.key.specs.Key.{escape, hexDigit, hexWord, keyOf, keyOfParts, Parts, PartsFit, digitValue, isWord, digitsWord, isWords, readKey}
-use Rattle.key.proofs.Reading.{read-stopped}
+use Rattle.names.specs.Names.{escape}
+use Rattle.key.specs.Key.{hexDigit, hexWord, keyOf, keyOfParts, Parts, PartsFit, digitValue, isWord, digitsWord, isWords, readKey}
+use Rattle.names.proofs.Reading.{read-stopped}
 use Rattle.key.proofs.Form.{word-length}
 use Rattle.key.proofs.Words.{tail-of}
 

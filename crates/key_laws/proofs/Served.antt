@@ -10,7 +10,8 @@ use lib.Dec.{ltb}
 use mathlib.Mathlib.Data.Bool.Basic.{or-eq-false-eq-eq-false-and-eq-false}
 use borrow.Author.Tests.{le-ltb, ltb-false}
 use Rattle.rooms.specs.Rooms.{Bytes}
-use Rattle.key.specs.Key.{marked, escapeByte, escape, keyOfParts, Parts, PartsFit, IsKey}
+use Rattle.names.specs.Names.{marked, escapeByte, escape}
+use Rattle.key.specs.Key.{keyOfParts, Parts, PartsFit, IsKey}
 use Rattle.key_writer.specs.Writing.{refused, keyWrote, keyRoom}
 use Rattle.key_laws.specs.Laws.{WriterGives}
 

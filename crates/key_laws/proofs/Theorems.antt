@@ -8,9 +8,11 @@ use native.Mathlib.Omega.{arith}
 use lib.ListN.{length}
 use borrow.Author.Tests.{le-ltb}
 use Rattle.rooms.specs.Rooms.{Bytes}
-use Rattle.key.specs.Key.{escape, hexWord, keyOf, keyOfParts, Parts, IsKey, isWords, readKey, readOf, makerOf, deviceOf, unescaped, nameIn}
-use Rattle.key.proofs.Form.{key-length, escape-length}
-use Rattle.key.proofs.Reading.{read-ended}
+use Rattle.names.specs.Names.{escape, unescaped, nameIn}
+use Rattle.key.specs.Key.{hexWord, keyOf, keyOfParts, Parts, IsKey, isWords, readKey, readOf, makerOf, deviceOf, deviceStart}
+use Rattle.names.proofs.Escaping.{escape-length}
+use Rattle.key.proofs.Form.{key-length}
+use Rattle.names.proofs.Reading.{read-ended}
 use Rattle.key.proofs.Keys.{key-given}
 use Rattle.key_laws.specs.Laws.{UnescapeEscape, ServedIsKey, NotKey, IsKeyWritten, NamesAreBytes, SameKey, NoKeyBeginsAnother, ReadWritten, NamesBack, dashed, DashMerges, KeysDiffer, KeyAtMost139, allEscaped, SomeKeyOf139}
 use Rattle.key_laws.proofs.Served.{gives, is-given, bytes-append, bytes-plain}
@@ -31,12 +33,12 @@ served-is-key k = (λ e. go (readKey k) refl e, λ i. rw (i .given, read-back (i
     go none f e = absurd (omega arith)
     go (some p) f e = let g = key-given k p f in record { parts = p; fit = g .0; given = g .1 }
 
--- bytes that aren't a key get answer 13, numbers 0 and parts of no bytes
+-- bytes that aren't a key get answer 13, numbers 0 and parts of no bytes, the device name's too at their first byte
 pub not-key : NotKey
 not-key k n = go (readKey k) refl
   where
-    go : (o : Option Parts) → readKey k ≡ o → (readOf o ≡ record { answer = 13; date = 0; serial = 0 }) × (makerOf o ≡ []) × (deviceOf o ≡ [])
-    go none f = (refl, refl, refl)
+    go : (o : Option Parts) → readKey k ≡ o → (readOf o ≡ record { answer = 13; date = 0; serial = 0 }) × (makerOf o ≡ []) × (deviceOf o ≡ []) × (deviceStart o ≡ 0)
+    go none f = (refl, refl, refl, refl)
     go (some p) f = let g = key-given k p f in absurd (n (record { parts = p; fit = g .0; given = g .1 }))
 
 -- the same of the writer's contract: some call of it that is answered 0 puts these bytes at the front of its room
@@ -80,10 +82,10 @@ no-key-begins-another k s i j = none-left s (go (isWords (wordsOf (p .date) (p .
         let z : _≡_ {A = ℕ} 0 1 = cc in
         absurd (omega arith)
 
--- ---- 5: reading what was written gives what was written
+-- ---- 5: reading what was written gives what was written, and shows the device name where it was written
 
 pub read-written : ReadWritten
-read-written p f = let e = read-back p f in (ap readOf e, ap makerOf e, ap deviceOf e)
+read-written p f = let e = read-back p f in (ap readOf e, ap makerOf e, ap deviceOf e, ap deviceStart e)
 
 -- the part that a name of up to 32 bytes is shown as stands for that name
 name-in : (name : List ℕ) → length name ≤ 32 → nameIn (escape name) ≡ some name

@@ -3,10 +3,11 @@ use mathlib.Core.Path.{_≡_}
 use mathlib.Core.Logic.{_↔_}
 use mathlib.Core.List.{List, [], _∷_, _++_}
 use mathlib.Core.Option.{some}
-use Prim.Native.Nat.{ℕ, _≤_, _<_}
+use Prim.Native.Nat.{ℕ, _+_, _≤_, _<_}
 use lib.ListN.{length, take, replicate}
 use Rattle.rooms.specs.Rooms.{Bytes}
-use Rattle.key.specs.Key.{escape, hexWord, keyOfParts, Parts, PartsFit, IsKey, readKey, readOf, makerOf, deviceOf, unescaped, nameIn}
+use Rattle.names.specs.Names.{escape, unescaped, nameIn}
+use Rattle.key.specs.Key.{hexWord, keyOfParts, Parts, PartsFit, IsKey, readKey, readOf, makerOf, deviceOf, deviceStart}
 use Rattle.key_writer.specs.Writing.{keyWrote, keyRoom}
 
 -- 1. unescaping an escaped name gives the name
@@ -17,11 +18,12 @@ UnescapeEscape = (name : List ℕ) → unescaped (escape name) ≡ some name
 abbrev pub ServedIsKey : Type 0
 ServedIsKey = (k : List ℕ) → (readOf (readKey k) .answer ≡ 0) ↔ IsKey k
 
--- bytes that aren't a key get answer 13, numbers 0 and parts of no bytes
+-- bytes that aren't a key get answer 13, numbers 0 and parts of no bytes, the device name's too at their first byte
 abbrev pub NotKey : Type 0
 NotKey =
     (k : List ℕ) → (IsKey k → ⊥)
     → (readOf (readKey k) ≡ record { answer = 13; date = 0; serial = 0 }) × (makerOf (readKey k) ≡ []) × (deviceOf (readKey k) ≡ [])
+    × (deviceStart (readKey k) ≡ 0)
 
 -- the writer gives the bytes: for some four parts and some room it answers 0 and they stand at the room's front
 pub record WriterGives (bytes : List ℕ) : Type 0 where
@@ -48,12 +50,13 @@ SameKey = (p q : Parts) → PartsFit p → PartsFit q → (keyOfParts p ≡ keyO
 abbrev pub NoKeyBeginsAnother : Type 0
 NoKeyBeginsAnother = (k s : List ℕ) → IsKey k → IsKey (k ++ s) → s ≡ []
 
--- 5. reading what was written gives what was written
+-- 5. reading what was written gives what was written, and shows the device name where it was written: past the maker and its 2F
 abbrev pub ReadWritten : Type 0
 ReadWritten =
     (p : Parts) → PartsFit p
     → (readOf (readKey (keyOfParts p)) ≡ record { answer = 0; date = p .date; serial = p .serial })
     × (makerOf (readKey (keyOfParts p)) ≡ escape (p .maker)) × (deviceOf (readKey (keyOfParts p)) ≡ escape (p .device))
+    × (deviceStart (readKey (keyOfParts p)) ≡ length (escape (p .maker)) + 1)
 
 -- and a reader of keys gets the very names that were put in
 abbrev pub NamesBack : Type 0

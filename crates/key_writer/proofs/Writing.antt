@@ -9,8 +9,10 @@ use lib.Seq.{sets, length-take-le}
 use borrow.Author.Tests.{lt-ltb, le-ltb}
 use Rattle.rooms.specs.Rooms.{wrote}
 use Rattle.rooms.proofs.Rooms.{then, front}
-use Rattle.key.specs.Key.{escapeByte, escape, hexDigit, hexWord, keyOf}
-use Rattle.key.proofs.Form.{escape-snoc, escape-length, word-length, key-length}
+use Rattle.names.specs.Names.{escapeByte, escape}
+use Rattle.key.specs.Key.{hexDigit, hexWord, keyOf}
+use Rattle.names.proofs.Escaping.{escape-snoc, escape-length}
+use Rattle.key.proofs.Form.{word-length, key-length}
 use Rattle.key_writer.specs.Writing.{refused, keyWrote, keyRoom}
 
 -- ---- a name

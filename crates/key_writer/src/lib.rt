@@ -1,11 +1,12 @@
 // The writer of pack keys: escape before you join (document 01, "Key").
-use key::is_marked;
+use names::is_marked;
 use rooms::Wrote;
 ghost use mathlib.Core.Path.{_≡_};
 ghost use Prim.Native.Nat.{_+_, _*_, _<_, _≤_};
 ghost use lib.ListN.{length};
 ghost use lib.Seq.{sets};
-ghost use Rattle.key.specs.Key.{escape, escapeByte, hexDigit, hexWord};
+ghost use Rattle.names.specs.Names.{escape, escapeByte};
+ghost use Rattle.key.specs.Key.{hexDigit, hexWord};
 ghost use Rattle.key_writer.specs.Writing.{keyWrote, keyRoom};
 
 // The byte as a key has it, written at a place.

@@ -1,19 +1,25 @@
--- Set-up's promises: a served one is sound, a refused one gives the all-zero state, which isn't; 002's initial values hold.
+-- Set-up's promises: a served one is sound, a refused one gives the all-zero state, which isn't; 002's initial values hold; both states fit.
 -- Assumes nothing.
+use Prim.Native.Nat.{_<_}
 use mathlib.Core.Bool.{Bool, true, false, cond}
 use mathlib.Core.Logic.{_⊎_, inl, inr}
 use mathlib.Core.Path.{_≡_, refl}
 use native.Mathlib.Omega.{arith}
 use native.Mathlib.Nat.{mul-le-mul-right}
 use lib.Dec.{eqb}
+use lib.IntN.{ℤ, pos, negsuc}
+use mir.Syntax.{w16}
+use mir.Val.{ofZ, SFits}
 use Rattle.pack.proofs.Conditions.{served}
 use Rattle.pack.proofs.Soundness.{settings-sound, tank-sound, pack-sound, sound-state}
-use Rattle.pack.specs.Promises.{ZeroUnsound, SoundWhenServed, ServedOrZero, Initial, InitialValues}
+use Rattle.pack.specs.Fits.{Fits, SampleFits, SetupFits}
+use Rattle.pack.specs.Promises.{ZeroUnsound, SoundWhenServed, ServedOrZero, Initial, InitialValues, KeptFits, ZeroFits, StartFits}
 use Rattle.pack.specs.Sound.{settingsSound, timersSound, packSound, soundOf}
 use Rattle.pack.specs.SetUp.{setUpOf, setUpRefused, packOf, zeroState}
 use Rattle.pack.specs.declared.Sample.{Sample}
 use Rattle.pack.specs.declared.Setup.{Setup}
 use Rattle.pack.specs.declared.Started.{Started}
+use Rattle.recent.proofs.Fits.{zero-recent-fits, started-fits}
 use Rattle.recent.proofs.Soundness.{started-sound}
 
 -- the two outcomes
@@ -62,3 +68,76 @@ unfolding packOf
 initial u first =
     outcome (λ r. r .answer ≡ 0 → Initial u r) u first (λ e. absurd (omega (arith, e)))
     (λ h e. record { RemainingCapacityAlarm = refl; RemainingTimeAlarm = refl; AlarmMode = refl; ChargerMode = refl; CapacityMode = refl })
+
+-- ---- both states fit
+
+-- the word of a signed 16-bit number
+pub word-fits : (z : ℤ) → SFits w16 z → ofZ w16 z < 65536
+word-fits (pos n) f = let h : n < 32768 = f .sfits in omega arith
+word-fits (negsuc n) f = omega arith
+
+pub kept-fits : KeptFits
+kept-fits x f =
+    record { voltage = f .voltage; current = word-fits (x .current) (f .current); temperature = f .temperature; counter = f .counter }
+
+pub zero-fits : ZeroFits
+zero-fits =
+    record {
+      error = omega arith;
+      pack =
+          record {
+            settings =
+                record {
+                  DesignCapacity = omega arith;
+                  DesignVoltage = omega arith;
+                  MaxError = omega arith;
+                  ManufactureDate = omega arith;
+                  SerialNumber = omega arith;
+                  ChargingCurrent = omega arith;
+                  ChargingVoltage = omega arith;
+                  TemperatureLimit = omega arith;
+                  DischargeLimit = omega arith;
+                };
+            host = record { ManufacturerAccess = omega arith; RemainingCapacityAlarm = omega arith; RemainingTimeAlarm = omega arith; AtRate = omega arith };
+            latest = record { voltage = omega arith; current = omega arith; temperature = omega arith; counter = omega arith };
+            recent = zero-recent-fits;
+            tank = record { charge = omega arith; full = omega arith; CycleCount = omega arith };
+            timers = record { hold = omega arith; alarm = omega arith; charger = omega arith };
+          };
+    }
+
+first-fits : (u : Setup) (first : Sample) → SetupFits u → SampleFits first → Fits (start u first .state)
+unfolding packOf
+first-fits u first f x =
+    record {
+      error = omega arith;
+      pack =
+          record {
+            settings =
+                record {
+                  DesignCapacity = f .DesignCapacity;
+                  DesignVoltage = f .DesignVoltage;
+                  MaxError = f .MaxError;
+                  ManufactureDate = f .ManufactureDate;
+                  SerialNumber = f .SerialNumber;
+                  ChargingCurrent = f .ChargingCurrent;
+                  ChargingVoltage = f .ChargingVoltage;
+                  TemperatureLimit = f .TemperatureLimit;
+                  DischargeLimit = f .DischargeLimit;
+                };
+            host =
+                record {
+                  ManufacturerAccess = omega arith;
+                  RemainingCapacityAlarm = omega (arith, f .DesignCapacity);
+                  RemainingTimeAlarm = omega arith;
+                  AtRate = omega arith;
+                };
+            latest = kept-fits first x;
+            recent = started-fits _ (word-fits (first .current) (x .current));
+            tank = record { charge = omega (arith, f .remaining); full = f .full; CycleCount = f .CycleCount };
+            timers = record { hold = omega arith; alarm = omega arith; charger = omega arith };
+          };
+    }
+
+pub start-fits : StartFits
+start-fits u first f x = outcome (λ r. Fits (r .state)) u first zero-fits (λ h. first-fits u first f x)

@@ -5,7 +5,8 @@ use mathlib.Core.Bool.{false}
 use mathlib.Core.Logic.{_⊎_}
 use mathlib.Core.Path.{_≡_}
 use lib.Dec.{eqb}
-use Rattle.pack.specs.SetUp.{setUpOf, zeroState}
+use Rattle.pack.specs.Fits.{Fits, LatestFit, SampleFits, SetupFits}
+use Rattle.pack.specs.SetUp.{latestOf, setUpOf, zeroState}
 use Rattle.pack.specs.Sound.{soundOf}
 use Rattle.pack.specs.declared.Sample.{Sample}
 use Rattle.pack.specs.declared.Setup.{Setup}
@@ -34,3 +35,17 @@ pub record Initial (u : Setup) (r : Started) : Type 0 where
 
 abbrev pub InitialValues : Type 0
 InitialValues = (u : Setup) (first : Sample) → setUpOf u first .answer ≡ 0 → Initial u (setUpOf u first)
+
+-- ---- what the types let be given gives a state whose fields hold what their types let them hold
+
+-- a sample as it is kept
+abbrev pub KeptFits : Type 0
+KeptFits = (x : Sample) → SampleFits x → LatestFit (latestOf x)
+
+-- the all-zero state
+abbrev pub ZeroFits : Type 0
+ZeroFits = Fits zeroState
+
+-- set-up's state, served or refused
+abbrev pub StartFits : Type 0
+StartFits = (u : Setup) (first : Sample) → SetupFits u → SampleFits first → Fits (setUpOf u first .state)

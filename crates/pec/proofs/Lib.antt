@@ -2,4 +2,3 @@ pub mod Bounds
 pub mod Join
 pub mod Loops
 pub mod Table
-pub mod Unique

@@ -1,8 +1,9 @@
 // SMBus packet error codes: CRC-8 of x^8 + x^2 + x + 1, start 0, high bit first.
 ghost use mathlib.Core.Path.{_≡_};
 ghost use Prim.Native.Nat.{_≤_};
-ghost use lib.ListN.{length, getD};
-ghost use Rattle.pec.specs.Pec.{pecFrom, pecOf};
+ghost use lib.ListN.{length};
+ghost use Rattle.pec.specs.Pec.{byteStep, pecFrom, pecOf};
+ghost use Rattle.pec.specs.Table.{Remainders};
 ghost use Rattle.pec.specs.Messages.{exchangeCheck, bitsApart, bitComparison};
 
 // The most bytes of an exchange: 16, command, 17, count, 32 bytes and PEC.
@@ -29,8 +30,10 @@ const TABLE: [u8; 256] = *b"\x00\x07\x0e\x09\x1c\x1b\x12\x15\x38\x3f\x36\x31\x24
     \xae\xa9\xa0\xa7\xb2\xb5\xbc\xbb\x96\x91\x98\x9f\x8a\x8d\x84\x83\
     \xde\xd9\xd0\xd7\xc2\xc5\xcc\xcb\xe6\xe1\xe8\xef\xfa\xfd\xf4\xf3";
 
+// The remainder of a byte, by the table's rule.
 fn entry(table: &[u8; 256], b: u8) -> u8
-    ensures { λ r. ⌜ r ≡ getD (now (table .entry)) b 0 ⌝ }
+    requires { ⌜ Remainders (now table) ⌝ }
+    ensures { λ r. ⌜ r ≡ byteStep b ⌝ }
 {
     table[b as usize]
 }

@@ -1,6 +1,6 @@
 -- Which faults the PEC catches: the theorems that `specs/Faults.antt` states.
 -- Assumes nothing.
-use mathlib.Core.Path.{_≡_, refl, sym, ap, ap₂, _∙_}
+use mathlib.Core.Path.{_≡_, refl, sym, ap, ap₂, _∙_, subst}
 use mathlib.Core.Bool.{Bool, true, false, _&&_}
 use mathlib.Core.List.{List, [], _∷_}
 use mathlib.Core.Logic.{_⊎_, inl, inr}
@@ -12,10 +12,10 @@ use lib.ListN.{length, getD}
 use lib.Bits.{bitXor}
 use lib.Count.{ones}
 use Rattle.pec.specs.Pec.{bitStep, byteStep, pecFrom, pecOf}
-use Rattle.pec.specs.Messages.{endsInPec, bitsApart}
+use Rattle.pec.specs.Messages.{endsInPec, Right, bitsApart}
 use Rattle.rooms.specs.Rooms.{Bytes}
 use Rattle.pec_laws.specs.Places.{xorAll, bitsOf, bitAt, Apart}
-use Rattle.pec_laws.specs.Faults.{Rights, Linear, FourBits, EvenBits, NoBurst, TwoBits, TwoBitsTo37, Caught, Misheard, FourIsSharp, FifteenIsSharp, EightIsSharp}
+use Rattle.pec_laws.specs.Faults.{Rights, Linear, FourBits, EvenBits, NoBurst, TwoBits, TwoBitsTo37, Caught, Misheard, FourIsSharp, TwoApart, FifteenIsSharp, EightIsSharp}
 use Rattle.pec_laws.proofs.Every.{and-left, and-right}
 use Rattle.pec_laws.proofs.Bits.{crc, weight, pec-bits}
 use Rattle.pec_laws.proofs.Words.{even, two-bits, in-word, four, burst}
@@ -121,10 +121,27 @@ zeros = 0 ∷ 0 ∷ 0 ∷ 0 ∷ 0 ∷ 0 ∷ 0 ∷ 0 ∷ 0 ∷ 0 ∷ 0 ∷ 0 ∷ 
 ends : List ℕ
 ends = 128 ∷ 0 ∷ 0 ∷ 0 ∷ 0 ∷ 0 ∷ 0 ∷ 0 ∷ 0 ∷ 0 ∷ 0 ∷ 0 ∷ 0 ∷ 0 ∷ 0 ∷ 1 ∷ []
 
-pub fifteen-is-sharp : FifteenIsSharp
+two-apart-16 : TwoApart 16
 unfolding bitsApart ones endsInPec pecOf pecFrom byteStep bitStep zeros ends below-256
-fifteen-is-sharp =
+two-apart-16 =
     (zeros, ends, ((bytes zeros tt, bytes ends tt, refl), (lit< tt, refl), (lit< tt, refl), unlike 0 128 _ _ (λ e. omega arith)), refl, refl)
+
+-- a right message with a byte 00 before it is right
+zero-before : (xs : List ℕ) → Bytes xs → Right xs → Right (0 ∷ xs)
+unfolding pecOf pecFrom byteStep bitStep
+zero-before xs h r = right-is-none (0 ∷ xs) (lit< tt, h) (omega arith) .1 (right-is-none xs h (r .0) .0 r)
+
+one-longer : (n : ℕ) → TwoApart n → TwoApart (suc n)
+unfolding bitsApart ones
+one-longer n (xs, ys, ((hx, hy, l), rx, ry, d), ln, two) =
+    (0 ∷ xs, 0 ∷ ys, (((lit< tt, hx), (lit< tt, hy), ap suc l), zero-before xs hx rx, zero-before ys hy ry, λ e. d (cc)), ap suc ln, ap (λ (m : ℕ). 0 + m) two)
+
+pub fifteen-is-sharp : FifteenIsSharp
+fifteen-is-sharp n h = let e : n - 16 + 16 ≡ n = omega arith in subst TwoApart e (longer (n - 16))
+  where
+    longer : (k : ℕ) → TwoApart (k + 16)
+    longer zero = two-apart-16
+    longer (suc k) = subst TwoApart (omega arith) (one-longer (k + 16) (longer k))
 
 -- they agree at the places 0 to 6
 early : (i : ℕ) → i < 7 → bitAt (0 ∷ 0 ∷ []) i ≡ bitAt (1 ∷ 7 ∷ []) i

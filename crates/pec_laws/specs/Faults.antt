@@ -65,9 +65,13 @@ Misheard =
 abbrev pub FourIsSharp : Type 0
 FourIsSharp = (xs : List ℕ) × (ys : List ℕ) × Rights xs ys × (length xs ≤ 15) × (bitsApart xs ys ≡ 4)
 
--- of 16 bytes, one that differs in exactly two
+-- two right messages of n bytes that differ in exactly two bits
+abbrev pub TwoApart : ℕ → Type 0
+TwoApart n = (xs : List ℕ) × (ys : List ℕ) × Rights xs ys × (length xs ≡ n) × (bitsApart xs ys ≡ 2)
+
+-- of every length from 16 bytes on there are such
 abbrev pub FifteenIsSharp : Type 0
-FifteenIsSharp = (xs : List ℕ) × (ys : List ℕ) × Rights xs ys × (length xs ≡ 16) × (bitsApart xs ys ≡ 2)
+FifteenIsSharp = (n : ℕ) → 16 ≤ n → TwoApart n
 
 -- and one that differs within nine neighbouring places
 abbrev pub EightIsSharp : Type 0

@@ -1,10 +1,10 @@
 -- "A reader walks a lent capture and remembers its row and place." Assumes nothing: these are definitions.
 use mathlib.Core.List.{List, []}
 use Prim.Native.Nat.{ℕ, zero, suc}
-use denote.Ref.{RefT, now}
+use denote.Ref.{RefT, now, ptr}
 use Rattle.capture.specs.declared.Step.{Step}
 use Rattle.capture.specs.Capture.{Row}
-use Rattle.capture.specs.Walk.{openedOf, stepAt, bodyAt, rowAfter, placeAfter, follow}
+use Rattle.capture.specs.Walk.{openedOf, stepAt, bodyAt, bodyPlace, rowAfter, placeAfter, follow}
 use Rattle.reader.specs.declared.Reader.{Reader}
 
 -- a reader begins at row 0 and its place
@@ -15,8 +15,13 @@ startOf bytes = record { bytes = bytes; row = 0; place = openedOf (now bytes) .p
 abbrev pub stepOf : Reader → Step
 stepOf r = stepAt (now (r .bytes)) (r .row) (r .place)
 
+-- the body of a reader's row; or no bytes
 abbrev pub bodyOf : Reader → List ℕ
 bodyOf r = bodyAt (now (r .bytes)) (r .row) (r .place)
+
+-- the place in memory where that body starts
+abbrev pub bodyStart : Reader → ℕ × ℕ
+bodyStart r = bodyPlace (now (r .bytes)) (r .row) (r .place) (ptr (r .bytes))
 
 -- the same capture, at the row and the place that the step goes on to
 abbrev pub afterOf : Reader → Reader

@@ -2,8 +2,9 @@
 // the work to a covered function on the bytes and the two numbers.
 use capture::Step;
 ghost use mathlib.Core.Path.{_≡_};
-ghost use Rattle.capture.specs.Walk.{openedOf, stepAt, bodyAt, rowAfter, placeAfter};
-ghost use Rattle.reader.specs.Reading.{startOf, stepOf, bodyOf, afterOf};
+ghost use denote.Ref.{ptr};
+ghost use Rattle.capture.specs.Walk.{openedOf, stepAt, bodyAt, bodyPlace, rowAfter, placeAfter};
+ghost use Rattle.reader.specs.Reading.{startOf, stepOf, bodyOf, bodyStart, afterOf};
 
 pub struct Reader<'a> {
     pub bytes: &'a [u8],
@@ -12,14 +13,14 @@ pub struct Reader<'a> {
 }
 
 // The place of the first row; 0 for bytes that aren't a capture.
-pub fn first_place(s: &[u8]) -> usize
+fn first_place(s: &[u8]) -> usize
     ensures { λ r. ⌜ r ≡ openedOf (now (s .entry)) .place ⌝ }
 {
     capture::open(s).place
 }
 
 // The row that a step goes on to; at the end, the same.
-pub fn row_after(s: &[u8], row: usize, place: usize) -> usize
+fn row_after(s: &[u8], row: usize, place: usize) -> usize
     ensures { λ r. ⌜ r ≡ rowAfter (stepAt (now (s .entry)) row place) row ⌝ }
 {
     match capture::step_at(s, row, place) {
@@ -30,7 +31,7 @@ pub fn row_after(s: &[u8], row: usize, place: usize) -> usize
 }
 
 // The place that a step goes on to; at the end, the same.
-pub fn place_after(s: &[u8], row: usize, place: usize) -> usize
+fn place_after(s: &[u8], row: usize, place: usize) -> usize
     ensures { λ r. ⌜ r ≡ placeAfter (stepAt (now (s .entry)) row place) place ⌝ }
 {
     match capture::step_at(s, row, place) {
@@ -38,6 +39,14 @@ pub fn place_after(s: &[u8], row: usize, place: usize) -> usize
         Step::End => place,
         Step::NotCapture => place,
     }
+}
+
+// The body of a row at a place: a part of the capture.
+fn bytes_at(s: &[u8], row: usize, place: usize) -> &[u8]
+    ensures { λ b. ⌜ now b ≡ bodyAt (now (s .entry)) row place ⌝ }
+    ensures { λ b. ⌜ ptr b ≡ bodyPlace (now (s .entry)) row place (ptr (s .entry)) ⌝ }
+{
+    capture::body_at(s, row, place)
 }
 
 // A reader at the first row.
@@ -59,11 +68,12 @@ pub fn next<'a>(r: Reader<'a>) -> Step
     capture::step_at(r.bytes, r.row, r.place)
 }
 
-// The body of the reader's row: a part of the capture.
+// The body of the reader's row: a part of the capture, of no bytes at its front where there is no such row.
 pub fn body<'a>(r: Reader<'a>) -> &'a [u8]
     ensures { λ b. ⌜ now b ≡ bodyOf (r .entry) ⌝ }
+    ensures { λ b. ⌜ ptr b ≡ bodyStart (r .entry) ⌝ }
 {
-    capture::body_at(r.bytes, r.row, r.place)
+    bytes_at(r.bytes, r.row, r.place)
 }
 
 // The reader at the next row; at the end, where it was.
@@ -77,11 +87,4 @@ pub fn after<'a>(r: Reader<'a>) -> Reader<'a>
         row,
         place,
     }
-}
-
-// The first row of a capture: for callers that have no reader.
-pub fn first(bytes: &[u8]) -> Step
-    ensures { λ r. ⌜ r ≡ stepAt (now (bytes .entry)) 0 (openedOf (now (bytes .entry)) .place) ⌝ }
-{
-    next(start(bytes))
 }

@@ -1,3 +1,4 @@
 pub mod Bound
+pub mod Fits
 pub mod Integers
 pub mod Soundness

@@ -6,12 +6,11 @@ use mathlib.Core.List.{List, [], _∷_}
 use mathlib.Core.Path.{_≡_, refl, ap, _∙_}
 use native.Mathlib.Omega.{arith}
 use borrow.Author.Tests.{le-leb, lt-leb}
-use Rattle.bus.specs.Transact.{timersWritten, packWritten}
 use Rattle.clock.specs.Broadcast.{sampledOf}
 use Rattle.clock.specs.Sample.{movedOf}
 use Rattle.clock_laws.proofs.Timers.{timer-decides, counts-on, moved-alarm}
 use Rattle.clock_laws.specs.Steps.{gap}
-use Rattle.gauge.specs.Status.{anyAlarm}
+use Rattle.status.specs.Status.{anyAlarm}
 use Rattle.pack.specs.SetUp.{packOf}
 use Rattle.pack.specs.Sound.{soundOf}
 use Rattle.pack.specs.declared.Pack.{Pack}
@@ -25,6 +24,7 @@ use Rattle.runs.specs.Histories.{Took, History, done, still-then, took-t
 use Rattle.runs.specs.Promises.{AlarmIn11s, FirstAtOnce}
 use Rattle.runs.specs.Since.{fromSetUp}
 use Rattle.words.proofs.Integers.{split}
+use Rattle.written.specs.Written.{timersWritten, packWritten}
 
 -- a write leaves the alarm timer as it was
 written-alarm : (p : Pack) (command word : ℕ) → packWritten p command word .timers .alarm ≡ p .timers .alarm

@@ -10,7 +10,8 @@ use Rattle.bus.proofs.Answers.{refused-no-reply}
 use Rattle.bus.specs.Transact.{packSide, packAfter, asked, transactAnswer, transactReply, transactOf}
 use Rattle.bus_laws.proofs.Exchanges.{served-reply}
 use Rattle.bus_laws.specs.Calls.{Call, result, answer, reply, Reads}
-use Rattle.clock.specs.Broadcast.{broadcastOf, sampledOf, sampleOf, servedSample, refusedSample}
+use Rattle.broadcasts.specs.Broadcasts.{broadcastOf}
+use Rattle.clock.specs.Broadcast.{sampledOf, sampleOf, servedSample, refusedSample}
 use Rattle.clock.specs.Sample.{movedOf}
 use Rattle.commands.specs.Answers.{readAnswer, requestAnswer, sideAnswer, served, readBody, sideReply}
 use Rattle.commands.specs.Commands.{kindOf}

@@ -6,17 +6,15 @@ use mathlib.Core.List.{List, [], _∷_, _++_}
 use mathlib.Core.Path.{_≡_, ap, _∙_}
 use native.Mathlib.Omega.{arith}
 use lib.Dec.{eqb}
-use Rattle.bus.specs.Transact.{bitSet, timersWritten, packWritten}
-use Rattle.clock.specs.Broadcast.{alarmGoes, chargerGoes}
-use Rattle.clock.specs.Sample.{movedOf}
+use Rattle.broadcasts.specs.Broadcasts.{alarmGoes, chargerGoes}
 use Rattle.clock_laws.proofs.Timers.{alarms-timed, charger-words-timed}
 use Rattle.clock_laws.specs.Steps.{Timed}
 use Rattle.pack.specs.declared.Pack.{Pack}
-use Rattle.pack.specs.declared.Sample.{Sample}
 use Rattle.pack.specs.declared.State.{State}
 use Rattle.runs.proofs.Histories.{step-sound, took, carried}
 use Rattle.runs.specs.Events.{Event, sample, step, run, Throughout, passes, timeOf}
 use Rattle.runs.specs.Promises.{ApartBy, AlarmsApart, ChargerWordsApart}
+use Rattle.written.specs.Written.{bitSet, timersWritten, packWritten}
 
 -- time of a history and one event more
 pub time-append : (s : State) (es : List Event) (e : Event) → timeOf s (es ++ e ∷ []) ≡ timeOf s es + passes (run s es) e

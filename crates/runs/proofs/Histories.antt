@@ -2,12 +2,11 @@
 -- Assumes nothing.
 use Prim.Native.Nat.{ℕ, _+_}
 use mathlib.Core.Bool.{Bool, true, false, cond, not, true≢false}
-use mathlib.Core.List.{List, [], _∷_, _++_}
+use mathlib.Core.List.{List, [], _∷_}
 use mathlib.Core.Logic.{inl, inr}
 use mathlib.Core.Path.{_≡_, refl, sym, ap, _∙_, subst, subst⁻¹}
 use lib.Dec.{eqb, ltb}
-use native.Mathlib.Omega.{arith}
-use Rattle.bus.specs.Transact.{packWritten, packAfter, asked, transactOf}
+use Rattle.bus.specs.Transact.{packAfter, asked, transactOf}
 use Rattle.bus_laws.proofs.Served as calls
 use Rattle.bus_laws.proofs.Soundness.{sound-stays}
 use Rattle.bus_laws.specs.Calls.{Call, result, answer, Writes}
@@ -28,6 +27,7 @@ use Rattle.pack.specs.declared.State.{State}
 use Rattle.runs.specs.Events.{Event, sample, call, step, run, Throughout, accepted, taken, passes, timeOf, ServedWrite, IdleEvent}
 use Rattle.runs.specs.Histories.{Took, Left, Still, History, done, still-then, took-then}
 use Rattle.runs.specs.Promises.{RunSound, SeenThrough, IdleKeep}
+use Rattle.written.specs.Written.{packWritten}
 
 -- every event leaves a sound state sound
 pub step-sound : (s : State) (e : Event) → soundOf s ≡ true → soundOf (step s e) ≡ true

@@ -9,7 +9,6 @@ use lib.Dec.{eqb}
 use lib.IntN.{ℤ, pos}
 use lib.ListN.{take, length-take}
 use lib.Seq.{take-take, take-all}
-use Rattle.bus.specs.Transact.{packWritten}
 use Rattle.tank.proofs.Charge.{charge-held}
 use Rattle.clock.specs.Broadcast.{sampledOf}
 use Rattle.clock.specs.Sample.{elapsedOf, movedOf}
@@ -31,6 +30,7 @@ use Rattle.runs.specs.Promises.{TimeTrue, MeasuresOfAccepted, KeptSinceS
 use Rattle.runs.specs.Since.{fromSetUp, Measures, measuresOf, measuresAfter, samplesOf, currentsOf, Signed16, chargeOver, Counted}
 use Rattle.words.proofs.Integers.{split}
 use Rattle.capacity.specs.Capacity.{milliampMs}
+use Rattle.written.specs.Written.{packWritten}
 
 -- ---- what is measured
 

@@ -2,12 +2,12 @@
 -- Assumes nothing.
 use Prim.Native.Nat.{ℕ, _+_, _-_, _≤_, min}
 use mathlib.Core.Bool.{Bool, true, false, cond}
-use mathlib.Core.List.{List, [], _∷_}
+use mathlib.Core.List.{List}
 use mathlib.Core.Path.{_≡_, refl, ap, _∙_, subst}
 use native.Mathlib.Omega.{arith}
-use borrow.Author.Tests.{eqb-true, ne-eqb, not-false}
+use borrow.Author.Tests.{eqb-true, ne-eqb}
 use lib.Dec.{eqb}
-use Rattle.bus.specs.Transact.{bitSet, hostWritten, timersWritten, packWritten, packAfter, asked, transactOf}
+use Rattle.bus.specs.Transact.{packAfter, transactOf}
 use Rattle.bus_laws.proofs.Served.{writes-asked}
 use Rattle.bus_laws.specs.Calls.{answer}
 use Rattle.clock_laws.proofs.Timers.{alarm-silent, charger-silent, moved-alarm-mode, moved-charger-mode, sampled-hold, sampled-charger-mode}
@@ -22,6 +22,7 @@ use Rattle.runs.proofs.Histories.{run-sound, timers-of, took, carried}
 use Rattle.runs.specs.Alarms.{NoModeWrite}
 use Rattle.runs.specs.Events.{Event, sample, call, step, run, Throughout, timeOf, ServedWrite}
 use Rattle.runs.specs.Promises.{HoldStarts, HoldLasts, HoldEnds, ClearsItself, AlarmsHeld, ChargerSilent}
+use Rattle.written.specs.Written.{bitSet, hostWritten, timersWritten, packWritten}
 
 -- ---- a write to 03 or not (here), with bit 13 or 14 (b), of which there is none such
 

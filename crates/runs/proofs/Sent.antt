@@ -6,11 +6,12 @@ use mathlib.Core.List.{List, [], _++_}
 use mathlib.Core.Path.{_≡_, refl, ap, _∙_}
 use lib.Dec.{eqb, ltb}
 use lib.ListN.{length, take}
-use Rattle.clock.specs.Broadcast.{alarmGoes, alarmsOf, chargerWordsOf, broadcastOf, sampleOf, broadcastRoom, servedSample, refusedSample}
+use Rattle.broadcasts.specs.Broadcasts.{alarmGoes, alarmsOf, chargerWordsOf, broadcastOf}
+use Rattle.clock.specs.Broadcast.{sampleOf, broadcastRoom, servedSample, refusedSample}
 use Rattle.clock.specs.Sample.{movedOf}
 use Rattle.frame.specs.Broadcasts.{messageOf}
 use Rattle.rooms.specs.Rooms.{placed}
-use Rattle.gauge.specs.Status.{chargerAlarm, alarmWord}
+use Rattle.status.specs.Status.{chargerAlarm, alarmWord}
 use Rattle.pack.specs.Sound.{soundOf}
 use Rattle.pack.specs.declared.Pack.{Pack}
 use Rattle.pack.specs.declared.Sample.{Sample}

@@ -4,13 +4,13 @@ use Prim.Native.Nat.{ℕ, _≤_}
 use mathlib.Core.Bool.{Bool, true, false}
 use mathlib.Core.List.{List, [], _∷_, _++_}
 use mathlib.Core.Path.{_≡_}
-use Rattle.bus.specs.Transact.{bitSet}
-use Rattle.clock.specs.Broadcast.{alarmGoes}
+use Rattle.broadcasts.specs.Broadcasts.{alarmGoes}
 use Rattle.clock.specs.Sample.{elapsedOf, movedOf}
-use Rattle.gauge.specs.Status.{anyAlarm}
+use Rattle.status.specs.Status.{anyAlarm}
 use Rattle.pack.specs.declared.Sample.{Sample}
 use Rattle.pack.specs.declared.State.{State}
 use Rattle.runs.specs.Events.{Event, sample, call, run, accepted, timeOf, ServedWrite}
+use Rattle.written.specs.Written.{bitSet}
 
 -- at an accepted sample an alarm bit is set with ALARM_MODE clear at the moment of sending, at most 1 s after the one before
 abbrev pub Alarming : State → Event → Type 0

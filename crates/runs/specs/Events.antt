@@ -8,10 +8,13 @@ use lib.Dec.{eqb}
 use Rattle.bus_laws.specs.Calls as calls
 use Rattle.bus_laws.specs.Calls.{Call, result, answer, Writes}
 use Rattle.commands.specs.Answers.{served}
-use Rattle.clock.specs.Broadcast.{broadcastOf, sampleOf}
+use Rattle.broadcasts.specs.Broadcasts.{broadcastOf}
+use Rattle.clock.specs.Broadcast.{sampleOf}
 use Rattle.clock.specs.Sample.{elapsedOf, movedOf}
+use Rattle.pack.specs.Fits.{SampleFits}
 use Rattle.pack.specs.declared.Sample.{Sample}
 use Rattle.pack.specs.declared.State.{State}
+use Rattle.rooms.specs.Rooms.{Bytes}
 
 -- a sample and the length of the lent broadcast room, or a transaction: both sheets, mark, bytes, length of the lent reply room
 pub data Event : Type 0 where
@@ -32,6 +35,11 @@ run s (e ∷ es) = run (step s e) es
 abbrev pub Throughout : (State → Event → Type 0) → State → List Event → Type 0
 Throughout A s [] = Unit {0}
 Throughout A s (e ∷ es) = A s e × Throughout A (step s e) es
+
+-- the fields of what an event brings hold what their types let them hold
+abbrev pub EventFits : State → Event → Type 0
+EventFits s (sample x n) = SampleFits x
+EventFits s (call c) = Bytes (c .bytes)
 
 -- ---- what an event is
 

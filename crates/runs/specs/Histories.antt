@@ -5,13 +5,13 @@ use mathlib.Core.Bool.{true}
 use mathlib.Core.List.{List, [], _∷_}
 use mathlib.Core.Logic.{_⊎_}
 use mathlib.Core.Path.{_≡_}
-use Rattle.bus.specs.Transact.{packWritten}
 use Rattle.clock.specs.Broadcast.{sampledOf}
 use Rattle.clock.specs.Sample.{elapsedOf}
 use Rattle.pack.specs.declared.Pack.{Pack}
 use Rattle.pack.specs.declared.Sample.{Sample}
 use Rattle.pack.specs.declared.State.{State}
 use Rattle.runs.specs.Events.{Event, sample, step, accepted, taken, passes, ServedWrite}
+use Rattle.written.specs.Written.{packWritten}
 
 -- an accepted sample: one more is taken, its time passes, and the pack is as sampled
 pub record Took (s : State) (x : Sample) (n : ℕ) : Type 0 where

@@ -6,21 +6,25 @@ use mathlib.Core.List.{List, [], _∷_, _++_}
 use mathlib.Core.Path.{_≡_}
 use lib.IntN.{pos}
 use lib.ListN.{length, take}
-use Rattle.bus_laws.specs.Calls.{Call, reply, Reads, keptWord}
-use Rattle.clock.specs.Broadcast.{alarmGoes, chargerGoes, sampleOf, broadcastRoom}
+use Rattle.bus_laws.specs.Calls.{Call, answer, reply, Reads, keptWord, Exchanged}
+use Rattle.broadcasts.specs.Broadcasts.{alarmGoes, chargerGoes}
+use Rattle.clock.specs.Broadcast.{sampleOf, broadcastRoom}
 use Rattle.clock.specs.Sample.{movedOf}
+use Rattle.commands.specs.Answers.{served}
 use Rattle.frame.specs.Broadcasts.{messageOf}
 use Rattle.frame.specs.Transactions.{replyOf, wordBody}
-use Rattle.gauge.specs.Status.{anyAlarm, alarmWord}
+use Rattle.status.specs.Status.{anyAlarm, alarmWord}
+use Rattle.gauge.specs.Word.{wordOf}
+use Rattle.pack.specs.Fits.{Fits, SampleFits, SetupFits}
 use Rattle.pack.specs.SetUp.{latestOf, setUpOf}
 use Rattle.pack.specs.Sound.{soundOf}
 use Rattle.pack.specs.declared.Pack.{Pack}
 use Rattle.pack.specs.declared.Sample.{Sample}
 use Rattle.pack.specs.declared.Setup.{Setup}
 use Rattle.pack.specs.declared.State.{State}
-use Rattle.rooms.specs.Rooms.{placed}
+use Rattle.rooms.specs.Rooms.{Bytes, placed}
 use Rattle.runs.specs.Alarms.{Alarming, NoAlarm, AlarmWithin, ModeWrite, NoModeWrite}
-use Rattle.runs.specs.Events.{Event, sample, step, run, Throughout, sent, accepted, acceptedOf, timeOf, ServedWrite, IdleEvent}
+use Rattle.runs.specs.Events.{Event, sample, step, run, Throughout, EventFits, sent, accepted, acceptedOf, timeOf, ServedWrite, IdleEvent}
 use Rattle.runs.specs.Histories.{History}
 use Rattle.runs.specs.Since.{fromSetUp, measuresOf, measuresAfter, samplesOf, currentsOf, Signed16, chargeOver, Counted}
 use Rattle.runs.specs.Struck.{Struck, strike, SameBut, Same, Unmoved}
@@ -41,6 +45,31 @@ abbrev pub TimeTrue : Type 0
 TimeTrue =
     (s : State) (es : List Event) (start stop : ℕ) → soundOf s ≡ true → s .pack .latest .counter ≡ start % 2 ^ 32
     → Counted start (acceptedOf s es) stop → timeOf s es ≡ stop - start
+
+-- ---- what a program can hold: from set-up on, fields hold what their types let them hold
+
+-- over any history
+abbrev pub RunFits : Type 0
+RunFits = (s : State) (es : List Event) → Fits s → Throughout EventFits s es → Fits (run s es)
+
+-- so in every state that is reached from set-up, served or refused
+abbrev pub ReachedFits : Type 0
+ReachedFits =
+    (u : Setup) (first : Sample) (es : List Event) → SetupFits u → SampleFits first → Throughout EventFits (fromSetUp u first) es
+    → Fits (run (fromSetUp u first) es)
+
+-- a read that is served there is an exchange in the sense of the theorems on exchanges
+abbrev pub ReachedExchanged : Type 0
+ReachedExchanged =
+    (u : Setup) (first : Sample) (es : List Event) → SetupFits u → SampleFits first → Throughout EventFits (fromSetUp u first) es
+    → (c : Call) (command : ℕ) → Bytes (c .bytes) → Bytes (c .service) → Bytes (c .factory)
+    → Reads c command → served (answer (run (fromSetUp u first) es) c) ≡ true → Exchanged (run (fromSetUp u first) es) c
+
+-- and from a served set-up every word is below 65,536
+abbrev pub ReachedWords : Type 0
+ReachedWords =
+    (u : Setup) (first : Sample) (es : List Event) (command : ℕ) → setUpOf u first .answer ≡ 0
+    → SetupFits u → SampleFits first → Throughout EventFits (fromSetUp u first) es → wordOf (run (fromSetUp u first) es) command < 65536
 
 -- ---- what is measured
 

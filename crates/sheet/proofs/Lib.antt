@@ -2,4 +2,3 @@ pub mod Tags
 pub mod Rows
 pub mod Lengths
 pub mod Names
-pub mod Lists

@@ -1,7 +1,8 @@
 -- Searching a sheet for a tag, and the block names. Assumes nothing.
-use mathlib.Core.Path.{_≡_, refl, ap, _∙_}
-use mathlib.Core.Bool.{Bool, true, false, cond, _&&_}
-use mathlib.Core.List.{List}
+use mathlib.Core.Path.{_≡_, refl, sym, ap, subst, _∙_}
+use mathlib.Core.Bool.{Bool, true, false, cond, _&&_, and-eq-true-iff}
+use mathlib.Core.List.{List, []}
+use mathlib.Core.Option.{Option, none, some, Option·getD}
 use Prim.Native.Nat.{ℕ, zero, suc, _+_, _*_, _-_, _≤_, _<_}
 use native.Mathlib.Omega.{arith}
 use lib.Dec.{eqb}
@@ -9,9 +10,10 @@ use lib.ListN.{length, getD, length-take}
 use borrow.Author.Tests.{eq-eqb, ne-eqb}
 use Rattle.sheet.specs.declared.Found.{Found}
 use Rattle.sheet.specs.declared.Found.the-variants.{At, Nothing}
-use Rattle.rooms.specs.Rooms.{between}
-use Rattle.sheet.specs.Sheet.{TagKind, old, tagAt, lengthAt, offsetAt, rowsListed, rowsOk, isSheet}
-use Rattle.sheet.specs.Block.{findRow, findIn, Part, ofService, ofFactory, firstOf, partOf, partBytes, placeOf, blockOf, blockAnswer}
+use Rattle.sheet.specs.declared.Located.{Located}
+use Rattle.rooms.specs.Rooms.{between, further}
+use Rattle.sheet.specs.Sheet.{old, tagAt, lengthAt, offsetAt, rowsListed, rowsOk, isSheet, entriesFrom, among, bodyIn}
+use Rattle.sheet.specs.Block.{findRow, findIn, Part, ofService, ofFactory, firstOf, goodSheets, partOf, partBytes, placeOf, locatedBy, locatedOf, blockOf, blockAnswer}
 use Rattle.sheet.proofs.Tags.{allowed-short}
 use Rattle.sheet.proofs.Rows.{first-right, reach, contents}
 
@@ -74,53 +76,125 @@ found-inside s tag a e ok f = inside (rowsListed s) s 1 0 (1 + 4 * rowsListed s)
 
 -- ---- which sheet a name comes from
 
+pub both : (s f : List ℕ) → goodSheets s f ≡ true → (isSheet s ≡ true) × (isSheet f ≡ true)
+both s f good = and-eq-true-iff (isSheet s) (isSheet f) .0 good
+
 module _ (s f : List ℕ) (tag : ℕ) where
-  pub bad-service : isSheet s ≡ false → partOf s f tag ≡ ofFactory 0 0
+  pub decided : goodSheets s f ≡ true → partOf s f tag ≡ firstOf (findIn s tag) (findIn f tag)
   unfolding partOf
-  bad-service e = rw e
+  decided good = rw good
 
-  pub bad-factory : isSheet s ≡ true → isSheet f ≡ false → partOf s f tag ≡ ofFactory 0 0
+  -- where a sheet is bad, and where both are good
+  pub refused : goodSheets s f ≡ false → record { answer = 9; factory = false; start = 0; end = 0 } ≡ locatedOf s f tag
+  unfolding locatedOf
+  refused bad = rw bad
+
+  pub located : goodSheets s f ≡ true → (x y : Found) → findIn s tag ≡ x → findIn f tag ≡ y → locatedBy (firstOf x y) ≡ locatedOf s f tag
+  unfolding locatedOf
+  located good x y ex ey = rw (good, decided good, ex, ey)
+
+-- ---- a name is a body that is listed
+
+-- what is found, as a body or none
+abbrev foundIn : Found → List ℕ → Option (List ℕ)
+foundIn (At a e) s = some (between s a e)
+foundIn Nothing s = none
+
+found-by : (b : Bool) (a e : ℕ) (x : Found) (s : List ℕ) (y : Option (List ℕ)) → foundIn x s ≡ y → foundIn (cond b (At a e) x) s ≡ cond b (some (between s a e)) y
+found-by true a e x s y h = refl
+found-by false a e x s y h = h
+
+-- it is the body that is listed, of any bytes
+found-row : (n : ℕ) (s : List ℕ) (at tag : ℕ) → foundIn (findRow n s at tag) s ≡ among tag (entriesFrom n s at)
+unfolding findRow among entriesFrom
+found-row zero s at tag = refl
+found-row (suc n) s at tag =
+    found-by (eqb (tagAt s at) tag) (offsetAt s at) (offsetAt s at + lengthAt s at) (findRow n s (at + 4) tag) s (among tag (entriesFrom n s (at + 4))) (found-row n s (at + 4) tag)
+
+by-first : (s f : List ℕ) (x y : Found) → partBytes (firstOf x y) s f ≡ Option·getD (foundIn x s) (Option·getD (foundIn y f) [])
+by-first s f (At a e) y = refl
+by-first s f Nothing (At a e) = refl
+by-first s f Nothing Nothing = refl
+
+pub name-is : (s f : List ℕ) (tag : ℕ) → goodSheets s f ≡ true → blockOf s f tag ≡ Option·getD (bodyIn s tag) (Option·getD (bodyIn f tag) [])
+unfolding blockOf
+name-is s f tag good =
+    ap (λ (p : Part). partBytes p s f) (decided s f tag good) ∙ by-first s f (findIn s tag) (findIn f tag) ∙ rw (found-row (rowsListed s) s 1 tag, found-row (rowsListed f) f 1 tag)
+
+-- ---- the part lies in its sheet, whatever the sheets
+
+abbrev pub InSheet : List ℕ → List ℕ → Part → Type 0
+InSheet s f (ofService a e) = Inside s a e
+InSheet s f (ofFactory a e) = Inside f a e
+
+module _ (s f : List ℕ) (tag : ℕ) where
+  no-bytes : InSheet s f (ofFactory 0 0)
+  no-bytes = record { rises = omega arith; ends = omega arith; small = omega arith }
+
+  first-in : (x y : Found) → findIn s tag ≡ x → findIn f tag ≡ y → goodSheets s f ≡ true → InSheet s f (firstOf x y)
+  first-in (At a e) y ex ey good = found-inside s tag a e (both s f good .0) ex
+  first-in Nothing (At a e) ex ey good = found-inside f tag a e (both s f good .1) ey
+  first-in Nothing Nothing ex ey good = no-bytes
+
+  pub part-in : InSheet s f (partOf s f tag)
   unfolding partOf
-  bad-factory h e = rw (h, e)
+  part-in = by-test (goodSheets s f) refl
+    where
+      by-test : (b : Bool) → goodSheets s f ≡ b → InSheet s f (cond b (firstOf (findIn s tag) (findIn f tag)) (ofFactory 0 0))
+      by-test true good = first-in (findIn s tag) (findIn f tag) refl refl good
+      by-test false bad = no-bytes
 
-  module _ (hs : isSheet s ≡ true) (hf : isSheet f ≡ true) where
-    decided : partOf s f tag ≡ firstOf (findIn s tag) (findIn f tag)
-    unfolding partOf
-    decided = rw (hs, hf)
-
-    pub in-service : (a e : ℕ) → findIn s tag ≡ At a e → partOf s f tag ≡ ofService a e
-    in-service a e h = decided ∙ rw h
-
-    pub in-factory : (a e : ℕ) → findIn s tag ≡ Nothing → findIn f tag ≡ At a e → partOf s f tag ≡ ofFactory a e
-    in-factory a e n h = decided ∙ rw (n, h)
-
-    pub in-neither : findIn s tag ≡ Nothing → findIn f tag ≡ Nothing → partOf s f tag ≡ ofFactory 0 0
-    in-neither n m = decided ∙ rw (n, m)
-
-  -- the part's bytes are the name's, and its place is told by the part
-  pub shown : (ps pf : ℕ × ℕ) (p : Part) → partOf s f tag ≡ p → (partBytes p s f ≡ blockOf s f tag) × (placeOf p ps pf ≡ placeOf (partOf s f tag) ps pf)
+  -- a block name has at most 32 bytes
+  pub block-short : length (blockOf s f tag) ≤ 32
   unfolding blockOf
-  shown ps pf p e = (rw e, rw e)
+  block-short = go (partOf s f tag) part-in
+    where
+      go : (p : Part) → InSheet s f p → length (partBytes p s f) ≤ 32
+      go (ofService a e) i = simp length-take (omega (arith, i .small))
+      go (ofFactory a e) i = simp length-take (omega (arith, i .small))
+
+-- ---- what its numbers say: where a sheet is bad, in the factory sheet, in the service sheet
+
+never : {X : Type 0} → false ≡ true → X
+never h = let z : _≡_ {A = ℕ} 0 1 = cc in absurd (omega arith)
+
+module _ (s f : List ℕ) (tag : ℕ) (ps pf : ℕ × ℕ) where
+  -- these bytes are the name, from this place on
+  abbrev IsName : List ℕ → ℕ × ℕ → Type 0
+  IsName bytes place = (bytes ≡ blockOf s f tag) × (place ≡ placeOf (partOf s f tag) ps pf)
+
+  pub record Told (l : Located) : Type 0 where
+    pub bad : (l .answer ≡ 0 → ⊥) → IsName [] (further 0 pf)
+    pub factory-in : l .factory ≡ true → Inside f (l .start) (l .end)
+    pub factory : l .factory ≡ true → IsName (between f (l .start) (l .end)) (further (l .start) pf)
+    pub service-in : l .answer ≡ 0 → l .factory ≡ false → Inside s (l .start) (l .end)
+    pub service : l .answer ≡ 0 → l .factory ≡ false → IsName (between s (l .start) (l .end)) (further (l .start) ps)
+
+  told-by : (p : Part) → partOf s f tag ≡ p → InSheet s f p → Told (locatedBy p)
+  unfolding blockOf
+  told-by (ofService a e) is i =
+      record { bad = λ no. absurd (no refl); factory-in = never; factory = never; service-in = λ _ _. i; service = λ _ _. (rw is, rw is) }
+  told-by (ofFactory a e) is i =
+      record { bad = λ no. absurd (no refl); factory-in = λ _. i; factory = λ _. (rw is, rw is); service-in = λ _ h. never (sym h); service = λ _ h. never (sym h) }
+
+  told-bad : goodSheets s f ≡ false → Told (record { answer = 9; factory = false; start = 0; end = 0 })
+  unfolding blockOf partOf
+  told-bad bad =
+      record { bad = λ _. (rw bad, rw bad); factory-in = never; factory = never; service-in = λ h _. absurd (omega arith); service = λ h _. absurd (omega arith) }
+
+  pub told : {l : Located} → l ≡ locatedOf s f tag → Told l
+  unfolding locatedOf
+  told is = subst Told (sym is) (by-test (goodSheets s f) refl)
+    where
+      by-test : (b : Bool) → goodSheets s f ≡ b → Told (cond b (locatedBy (partOf s f tag)) (record { answer = 9; factory = false; start = 0; end = 0 }))
+      by-test true good = told-by (partOf s f tag) refl (part-in s f tag)
+      by-test false bad = told-bad bad
+
+-- ---- the answer
+
+pub good-told : (s f : List ℕ) (a b : Bool) → a ≡ isSheet s → b ≡ isSheet f → goodSheets s f ≡ a && b
+good-told s f a b ea eb = rw (ea, eb)
 
 pub answered : (s f : List ℕ) (a b : Bool) → a ≡ isSheet s → b ≡ isSheet f → cond (a && b) 0 9 ≡ blockAnswer s f
 unfolding blockAnswer
 answered s f a b ea eb = rw (ea, eb)
-
--- ---- a block name has at most 32 bytes, whatever the sheets
-
-part-short : (s : List ℕ) (a e : ℕ) → Inside s a e → length (between s a e) ≤ 32
-part-short s a e i = simp length-take (omega (arith, i .small))
-
-module _ (s f : List ℕ) (tag : ℕ) where
-  by-part : (p : Part) → partOf s f tag ≡ p → length (partBytes p s f) ≤ 32 → length (blockOf s f tag) ≤ 32
-  by-part p e h = rw (shown s f tag (0, 0) (0, 0) p e .0) at h
-
-  short-name : (b c : Bool) (x y : Found) → isSheet s ≡ b → isSheet f ≡ c → findIn s tag ≡ x → findIn f tag ≡ y → length (blockOf s f tag) ≤ 32
-  short-name false c x y hs hf es ef = by-part (ofFactory 0 0) (bad-service s f tag hs) (omega arith)
-  short-name true false x y hs hf es ef = by-part (ofFactory 0 0) (bad-factory s f tag hs hf) (omega arith)
-  short-name true true (At a e) y hs hf es ef = by-part (ofService a e) (in-service s f tag hs hf a e es) (part-short s a e (found-inside s tag a e hs es))
-  short-name true true Nothing (At a e) hs hf es ef = by-part (ofFactory a e) (in-factory s f tag hs hf a e es ef) (part-short f a e (found-inside f tag a e hf ef))
-  short-name true true Nothing Nothing hs hf es ef = by-part (ofFactory 0 0) (in-neither s f tag hs hf es ef) (omega arith)
-
-  pub block-short : length (blockOf s f tag) ≤ 32
-  block-short = short-name (isSheet s) (isSheet f) (findIn s tag) (findIn f tag) refl refl refl refl

@@ -1,11 +1,12 @@
 -- Which part of which sheet is shown as a block name. Definitions: assumes nothing.
-use mathlib.Core.Bool.{Bool, cond, _&&_}
+use mathlib.Core.Bool.{Bool, true, false, cond, _&&_}
 use mathlib.Core.List.{List}
 use Prim.Native.Nat.{ℕ, zero, suc, _+_}
 use lib.Dec.{eqb}
 use Rattle.sheet.specs.declared.Found.{Found}
 use Rattle.sheet.specs.declared.Found.the-variants.{At, Nothing}
-use Rattle.rooms.specs.Rooms.{between}
+use Rattle.sheet.specs.declared.Located.{Located}
+use Rattle.rooms.specs.Rooms.{between, further}
 use Rattle.sheet.specs.Sheet.{tagAt, lengthAt, offsetAt, rowsListed, isSheet}
 
 -- where the body of a tag lies, from its first byte to past its last, by the first of n rows from byte `at` on that has the tag
@@ -16,10 +17,6 @@ findRow (suc n) s at tag = cond (eqb (tagAt s at) tag) (At (offsetAt s at) (offs
 -- the same, by the rows of a sheet
 abbrev pub findIn : List ℕ → ℕ → Found
 findIn s tag = findRow (rowsListed s) s 1 tag
-
--- the same of any bytes: what is no sheet lists nothing
-unfoldable pub listedIn : List ℕ → ℕ → Found
-listedIn s tag = cond (isSheet s) (findIn s tag) Nothing
 
 -- a part, from its first byte to past its last, of the service sheet or of the factory sheet
 pub data Part : Type 0 where
@@ -44,10 +41,20 @@ abbrev pub partBytes : Part → List ℕ → List ℕ → List ℕ
 partBytes (ofService a e) service factory = between service a e
 partBytes (ofFactory a e) service factory = between factory a e
 
--- the place in memory where a part starts, from those of the two sheets (a block of memory, and a byte in it)
+-- the place in memory where a part starts, from those of the two sheets
 abbrev pub placeOf : Part → ℕ × ℕ → ℕ × ℕ → ℕ × ℕ
-placeOf (ofService a e) service factory = (service .0, a + service .1)
-placeOf (ofFactory a e) service factory = (factory .0, a + factory .1)
+placeOf (ofService a e) service factory = further a service
+placeOf (ofFactory a e) service factory = further a factory
+
+-- a part by numbers, with answer 0
+abbrev pub locatedBy : Part → Located
+locatedBy (ofService a e) = record { answer = 0; factory = false; start = a; end = e }
+locatedBy (ofFactory a e) = record { answer = 0; factory = true; start = a; end = e }
+
+-- the part that is shown, by numbers; where a sheet is bad 9, and the other numbers are 0
+unfoldable pub locatedOf : List ℕ → List ℕ → ℕ → Located
+locatedOf service factory tag =
+    cond (goodSheets service factory) (locatedBy (partOf service factory tag)) (record { answer = 9; factory = false; start = 0; end = 0 })
 
 -- the block name
 unfoldable pub blockOf : List ℕ → List ℕ → ℕ → List ℕ

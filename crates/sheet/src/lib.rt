@@ -5,12 +5,20 @@ ghost use Prim.Native.Nat.{_+_, _*_, _<_, _≤_};
 ghost use lib.ListN.{length};
 ghost use denote.Ref.{ptr};
 ghost use Rattle.sheet.specs.Sheet.{old, allows, rowOk, isSheet};
-ghost use Rattle.sheet.specs.Block.{listedIn, findIn, partOf, placeOf, blockOf, blockAnswer};
+ghost use Rattle.sheet.specs.Block.{findIn, locatedOf, partOf, placeOf, blockOf, blockAnswer};
 
 // Where the body of a tag lies in a sheet: from its first byte to past its last.
-pub enum Found {
+enum Found {
     At(usize, usize),
     Nothing,
+}
+
+// Where a block name lies: the answer, whether in the factory sheet, from its first byte to past its last.
+pub struct Located {
+    pub answer: u8,
+    pub factory: bool,
+    pub start: usize,
+    pub end: usize,
 }
 
 // A row's offset: two bytes, low first.
@@ -92,14 +100,40 @@ fn find(sheet: &[u8], tag: u8) -> Found
     Found::Nothing
 }
 
-// The same of any bytes: what is no sheet lists nothing.
-pub fn listed(sheet: &[u8], tag: u8) -> Found
-    ensures { λ r. ⌜ r ≡ listedIn (now (sheet .entry)) tag ⌝ }
+// The part of the two sheets that is the block name of a tag; 9 and zeros where a sheet is bad.
+pub fn locate(service: &[u8], factory: &[u8], tag: u8) -> Located
+    ensures { λ r. ⌜ r ≡ locatedOf (now (service .entry)) (now (factory .entry)) tag ⌝ }
 {
-    if is_sheet(sheet) {
-        return find(sheet, tag);
+    if !(is_sheet(service) & is_sheet(factory)) {
+        return Located {
+            answer: 9,
+            factory: false,
+            start: 0,
+            end: 0,
+        };
     }
-    Found::Nothing
+    match find(service, tag) {
+        Found::At(start, end) => Located {
+            answer: 0,
+            factory: false,
+            start,
+            end,
+        },
+        Found::Nothing => match find(factory, tag) {
+            Found::At(start, end) => Located {
+                answer: 0,
+                factory: true,
+                start,
+                end,
+            },
+            Found::Nothing => Located {
+                answer: 0,
+                factory: true,
+                start: 0,
+                end: 0,
+            },
+        },
+    }
 }
 
 // The answer number of a block name: 9 where a sheet is bad.
@@ -117,17 +151,14 @@ pub fn block<'a>(service: &'a [u8], factory: &'a [u8], tag: u8) -> &'a [u8]
     ensures { λ r. ⌜ now r ≡ blockOf (now (service .entry)) (now (factory .entry)) tag ⌝ }
     ensures { λ r. ⌜ ptr r ≡ placeOf (partOf (now (service .entry)) (now (factory .entry)) tag) (ptr (service .entry)) (ptr (factory .entry)) ⌝ }
 {
-    if !is_sheet(service) {
+    let found = locate(service, factory, tag);
+    let start = found.start;
+    let end = found.end;
+    if found.answer != 0 {
         return &factory[0..0];
     }
-    if !is_sheet(factory) {
-        return &factory[0..0];
+    if found.factory {
+        return &factory[start..end];
     }
-    match find(service, tag) {
-        Found::At(start, end) => &service[start..end],
-        Found::Nothing => match find(factory, tag) {
-            Found::At(start, end) => &factory[start..end],
-            Found::Nothing => &factory[0..0],
-        },
-    }
+    &service[start..end]
 }

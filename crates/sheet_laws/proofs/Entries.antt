@@ -3,13 +3,13 @@ use mathlib.Core.Path.{_≡_, refl, sym, ap, _∙_}
 use mathlib.Core.Bool.{Bool, true, false, _&&_, and-eq-true-iff}
 use mathlib.Core.List.{List, [], _∷_, _++_, append-assoc}
 use mathlib.Core.Option.{some}
-use Prim.Native.Nat.{ℕ, suc, _+_, _*_, _-_, _/_, _%_, _≤_, _<_}
+use Prim.Native.Nat.{ℕ, _+_, _*_, _-_, _/_, _%_, _≤_}
 use native.Mathlib.Omega.{arith}
 use lib.Dec.{eqb, leb}
 use lib.ListN.{length, take, drop, length-append}
 use lib.Seq.{getD-append-seam, getD-append-add, drop-append-seam, take-append-seam, drop-drop, drop-at}
 use borrow.Author.Tests.{le-leb, leb-true, eqb-true}
-use Rattle.sheet.specs.Sheet.{Entry, rowsOf, bodiesOf, contentsOf, TagKind, Form, sheetOf, allows, tagAt, lengthAt, offsetAt, rowsListed, entriesFrom, entriesIn, among}
+use Rattle.sheet.specs.Sheet.{Entry, rowsOf, bodiesOf, contentsOf, TagKind, Form, sheetOf, allows, tagAt, lengthAt, offsetAt, rowsListed, entriesFrom, among}
 use Rattle.sheet.proofs.Tags.{over, over-one, over-all}
 use Rattle.sheet.proofs.Lengths.{rows-length}
 use Rattle.sheet_laws.specs.Forms.{Proper, listable}

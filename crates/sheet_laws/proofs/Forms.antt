@@ -12,7 +12,7 @@ use Rattle.rooms.specs.Rooms.{Bytes, between}
 use Rattle.sheet.specs.Sheet.{Entry, rowsOf, contentsOf, bodiesOf, TagKind, Form, old, sheetOf, tagAt, lengthAt, offsetAt, rowsListed, rowOk, rowsOk, isSheetOf, entriesFrom, entriesIn}
 use Rattle.sheet.proofs.Rows.{RowRight, first-right, reach, contents}
 use Rattle.sheet.proofs.Lengths.{rows-length}
-use Rattle.sheet_laws.specs.Forms.{Proper, listable, SheetOfSome}
+use Rattle.sheet_laws.specs.Forms.{Proper, listable}
 use Rattle.sheet_laws.specs.Laws.{SheetExactly, SheetOneChoice, SheetAllowed}
 use Rattle.sheet_laws.proofs.Entries.{first, cons, among-allowed, few-entries, row, read-back}
 

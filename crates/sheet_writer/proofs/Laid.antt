@@ -9,12 +9,13 @@ use lib.Dec.{leb}
 use lib.ListN.{length, set, length-append, length-set}
 use lib.Seq.{sets, set-comm, length-sets}
 use borrow.Author.Tests.{leb-true}
+use Rattle.rooms.specs.declared.Wrote.{Wrote}
 use Rattle.rooms.specs.Rooms.{wrote}
 use Rattle.rooms.proofs.Rooms.{sets-append, then, front}
 use Rattle.sheet.specs.Sheet.{Entry, rowsOf, contentsOf, bodiesOf, old, sheetOf}
 use Rattle.sheet.proofs.Lengths.{rows-length}
 use Rattle.sheet_writer.specs.declared.Cursor.{Cursor}
-use Rattle.sheet_writer.specs.Writing.{entryIf, choice, short, writable, sheetWrote, sheetRoom, Owed}
+use Rattle.sheet_writer.specs.Writing.{entryIf, choice, short, writable, sheetWrote, sheetRoom}
 use Rattle.sheet_writer.specs.Laying.{Place, laid, past, Put}
 
 -- ---- entries and then others
@@ -172,9 +173,20 @@ sheet-most : (es : List Entry) → length es ≤ 4 → short es ≡ true → len
 sheet-most es few h = omega (arith, sheet-length es, bodies-most es h)
 
 module _ (es : List Entry) (room : List ℕ) where
-  pub refused : writable es room ≡ false → Owed es room (wrote 12 0) room
+  -- what is answered, and what the room then holds
+  abbrev Owed : Wrote → List ℕ → Type 0
+  Owed answer after = (answer ≡ sheetWrote es room) × (after ≡ sheetRoom es room)
+
+  by-answer : (a : ℕ) (ok : Bool) → a ≡ cond ok 0 12 → ((a ≡ 0 → ⊥) → (ok ≡ false) × (a ≡ 12)) × (a ≡ 0 → ok ≡ true)
+  by-answer a true e = (λ ne. absurd (ne e), λ _. refl)
+  by-answer a false e = (λ _. (refl, e), λ z. absurd (omega arith))
+
+  pub refused : (a : ℕ) → a ≡ cond (writable es room) 0 12 → (a ≡ 0 → ⊥) → Owed (wrote a 0) room
   unfolding sheetWrote sheetRoom
-  refused e = (rw e, rw e)
+  refused a e ne = let f = by-answer a (writable es room) e .0 ne in (rw (f .0, f .1), rw (f .0))
+
+  pub allowed : (a : ℕ) → a ≡ cond (writable es room) 0 12 → a ≡ 0 → writable es room ≡ true
+  allowed a e = by-answer a (writable es room) e .1
 
   pub facts : writable es room ≡ true → (short es ≡ true) × (145 ≤ length room)
   unfolding writable
@@ -191,14 +203,14 @@ module _ (es : List Entry) (room : List ℕ) where
         record { rows = omega arith; bodies = omega (arith, facts ok .1); offsets = omega arith; small = facts ok .0 }
 
     -- byte n, and then the rows and the bodies of all
-    pub written : {m : List ℕ} {last : Cursor} → Put (set room 0 n) start es m last → Owed es room (wrote 0 (last .end)) m
+    pub written : {m : List ℕ} {last : Cursor} (a : ℕ) → a ≡ 0 → Put (set room 0 n) start es m last → Owed (wrote a (last .end)) m
     unfolding sheetWrote sheetRoom sheetOf old
-    written {m} {last} all =
+    written {m} {last} a z all =
         let C : List ℕ = contentsOf old es in
         let f : 1 + 4 * n ≡ 0 + length C = omega (arith, rows-length es (1 + 4 * length es)) in
         let l : last .end ≡ length (sheetOf old es) = ap (λ (a : Cursor). a .end) (all .0) ∙ omega (arith, sheet-length es) in
         let s : sets (set room 0 n) 1 (rowsOf (1 + 4 * n) es) ≡ sets room 0 C = let z : 0 + length es ≡ length es = omega arith in rw (count, z) in
-        (rw (ok, l), rw ok (all .1 ∙ then room 0 (1 + 4 * n) C (bodiesOf es) s f ∙ front (sheetOf old es) room (omega (arith, sheet-most es few (facts ok .0), facts ok .1))))
+        (rw (z, ok, l), rw ok (all .1 ∙ then room 0 (1 + 4 * n) C (bodiesOf es) s f ∙ front (sheetOf old es) room (omega (arith, sheet-most es few (facts ok .0), facts ok .1))))
 
 -- what writing a choice answers: a length of at most 145
 pub wrote-most : (h : Bool) (b : List ℕ) (i : Bool) (c : List ℕ) (j : Bool) (d : List ℕ) (k : Bool) (e : List ℕ) (room : List ℕ) → sheetWrote (choice h b i c j d k e) room .length ≤ 145

@@ -1,5 +1,4 @@
 -- What writing a sheet gives: answer, length and room. Definitions: assumes nothing.
-use mathlib.Core.Path.{_≡_}
 use mathlib.Core.Bool.{Bool, true, cond, _&&_}
 use mathlib.Core.List.{List, [], _∷_, _++_}
 use Prim.Native.Nat.{ℕ}
@@ -34,7 +33,3 @@ sheetWrote es room = cond (writable es room) (wrote 0 (length (sheetOf old es)))
 -- the sheet at the front and the rest of the room as it was; or the room as it was
 unfoldable pub sheetRoom : List Entry → List ℕ → List ℕ
 sheetRoom es room = cond (writable es room) (placed (sheetOf old es) room) room
-
--- what writing entries into a room owes: what it answers, and what the room holds after it
-abbrev pub Owed : List Entry → List ℕ → Wrote → List ℕ → Type 0
-Owed es room answer after = (answer ≡ sheetWrote es room) × (after ≡ sheetRoom es room)

@@ -5,7 +5,7 @@ ghost use mathlib.Core.Bool.{cond, not, _||_};
 ghost use Prim.Native.Nat.{_≤_};
 ghost use lib.Dec.{leb};
 ghost use lib.ListN.{length};
-ghost use Rattle.sheet_writer.specs.Writing.{entryIf, choice, Owed};
+ghost use Rattle.sheet_writer.specs.Writing.{entryIf, choice, sheetWrote, sheetRoom};
 ghost use Rattle.sheet_writer.specs.Laying.{Place, Put};
 
 // Where the next row is written, and where the next body starts.
@@ -28,6 +28,16 @@ fn one_if(has: bool) -> usize
         return 1;
     }
     0
+}
+
+// 12, unless the sheet can be written.
+fn answer_if(writable: bool) -> u8
+    ensures { λ r. ⌜ r ≡ cond writable 0 12 ⌝ }
+{
+    if writable {
+        return 0;
+    }
+    12
 }
 
 // The row and the body of a tag, if it has one.
@@ -63,15 +73,14 @@ pub fn write_sheet(
     has23: bool,
     body23: &[u8],
 ) -> Wrote
-    ensures { λ r. ⌜ Owed (choice has20 (now (body20 .entry)) has21 (now (body21 .entry)) has22 (now (body22 .entry)) has23 (now (body23 .entry))) (now (room .entry)) r (now (room .exit)) ⌝ }
+    ensures { λ r. ⌜ r ≡ sheetWrote (choice has20 (now (body20 .entry)) has21 (now (body21 .entry)) has22 (now (body22 .entry)) has23 (now (body23 .entry))) (now (room .entry)) ⌝ }
+    ensures { λ _. ⌜ now (room .exit) ≡ sheetRoom (choice has20 (now (body20 .entry)) has21 (now (body21 .entry)) has22 (now (body22 .entry)) has23 (now (body23 .entry))) (now (room .entry)) ⌝ }
 {
     let lower = short_body(has20, body20) & short_body(has21, body21);
     let upper = short_body(has22, body22) & short_body(has23, body23);
-    if !(lower & upper & (145 <= room.len())) {
-        return Wrote {
-            answer: 12,
-            length: 0,
-        };
+    let answer = answer_if(lower & upper & (145 <= room.len()));
+    if answer != 0 {
+        return Wrote { answer, length: 0 };
     }
     let n = one_if(has20) + one_if(has21) + one_if(has22) + one_if(has23);
     room[0] = n as u8;
@@ -84,7 +93,7 @@ pub fn write_sheet(
     let past22 = put_entry(room, past21, 0x22, has22, body22);
     let past23 = put_entry(room, past22, 0x23, has23, body23);
     Wrote {
-        answer: 0,
+        answer,
         length: past23.end,
     }
 }

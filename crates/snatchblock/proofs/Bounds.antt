@@ -14,19 +14,16 @@ use Rattle.capture.proofs.Check as capture
 use Rattle.capture.specs.Capture.{isCapture, countIn, placeIn}
 use Rattle.capture.specs.Walk.{openedOf}
 use Rattle.capture.specs.declared.Opened.{Opened}
-use Rattle.key.proofs.Unescaping.{unescaped-is}
-use Rattle.key.proofs.Form.{escape-length, key-length}
-use Rattle.key.specs.Key.{marked, escapeByte, escape, unescaped, nameIn, plainWrote}
+use Rattle.names.proofs.Unescaping.{unescaped-is}
+use Rattle.names.proofs.Escaping.{escape-length}
+use Rattle.key.proofs.Form.{key-length}
+use Rattle.names.specs.Names.{marked, escapeByte, escape, unescaped, nameIn, plainWrote}
 use Rattle.key_writer.specs.Writing.{refused, keyWrote}
+use Rattle.packed.proofs.Choice.{chosen}
 use Rattle.rooms.specs.declared.Wrote.{Wrote}
 use Rattle.pec.proofs.Loops.{apart-le}
 use Rattle.pec.specs.Messages.{bitsApart, bitComparison}
 use Rattle.pec.specs.declared.Compared.{Compared}
-
--- what holds of both choices holds of the one made
-pub chosen : {A : Type 0} (P : A → Type 0) (b : Bool) {x y : A} → (b ≡ true → P x) → (b ≡ false → P y) → P (cond b x y)
-chosen P true f g = f refl
-chosen P false f g = g refl
 
 -- ---- bits
 

@@ -1,3 +1,3 @@
 pub mod Bounds
-pub mod Areas
 pub mod Parts
+pub mod Handed

@@ -1,10 +1,10 @@
--- Keys, blocks and rows: what is packed has room, and each case's number is the whole's.
+-- What is packed of keys, block names and rows has room above the answer.
 -- Assumes nothing.
-use mathlib.Core.Bool.{true, false, _&&_, and-eq-true-iff}
+use mathlib.Core.Bool.{true, _&&_, and-eq-true-iff}
 use mathlib.Core.List.{List}
 use mathlib.Core.Option.{Option, none, some}
-use mathlib.Core.Path.{_≡_, refl, sym, subst, _∙_}
-use Prim.Native.Nat.{ℕ, _+_, _≤_}
+use mathlib.Core.Path.{_≡_, refl, sym, subst}
+use Prim.Native.Nat.{ℕ, _+_, _≤_, _<_}
 use native.Mathlib.Omega.{arith}
 use borrow.Author.Tests.{leb-true}
 use lib.Dec.{ltb, leb}
@@ -13,19 +13,15 @@ use Rattle.capture.proofs.Check.{longest}
 use Rattle.capture.specs.Capture.{isCapture, countIn, lengthIn}
 use Rattle.capture.specs.Walk.{hasRow, stepAt}
 use Rattle.capture.specs.declared.Step.{Step}
-use Rattle.capture.specs.declared.Step.the-variants.{Next, End, NotCapture}
 use Rattle.key.proofs.Keys.{key-given}
-use Rattle.key.proofs.Form.{escape-length}
+use Rattle.names.proofs.Escaping.{escape-length}
 use Rattle.key.specs.Key.{Parts, readKey, makerOf, deviceOf}
+use Rattle.packed.proofs.Choice.{chosen}
+use Rattle.packed.specs.Packed.{RowFits}
 use Rattle.sheet.proofs.Lengths.{at-most-145}
-use Rattle.sheet.proofs.Names.{found-inside}
-use Rattle.sheet.specs.Block.{Part, findIn, partOf, blockAnswer}
-use Rattle.sheet.specs.Sheet.{isSheet}
-use Rattle.sheet.specs.declared.Found.the-variants.{At}
-use Rattle.snatchblock.proofs.Bounds.{chosen}
-use Rattle.snatchblock.specs.Packed.{blockNumber}
-
--- ---- keys
+use Rattle.sheet.proofs.Names.{both, InSheet, part-in}
+use Rattle.sheet.specs.Block.{Part, ofService, ofFactory, goodSheets, partOf, locatedBy, locatedOf}
+use Rattle.sheet.specs.declared.Located.{Located}
 
 -- the parts that a reader shows of a key, escaped
 pub read-most : (k : List ℕ) → (length (makerOf (readKey k)) ≤ 64) × (length (deviceOf (readKey k)) ≤ 64)
@@ -37,47 +33,26 @@ read-most k = go (readKey k) refl
         let f = key-given k p e .0 in
         (omega (arith, escape-length (p .maker), f .maker-fits), omega (arith, escape-length (p .device), f .device-fits))
 
--- ---- blocks
+-- a block name lies within the longest sheet
+module _ (s f : List ℕ) (tag : ℕ) where
+  by-part : goodSheets s f ≡ true → (p : Part) → InSheet s f p → (locatedBy p .start ≤ locatedBy p .end) × (locatedBy p .end < 256)
+  by-part good (ofService a e) i = (i .rises, omega (arith, i .ends, at-most-145 s (both s f good .0)))
+  by-part good (ofFactory a e) i = (i .rises, omega (arith, i .ends, at-most-145 f (both s f good .1)))
 
--- the part that a sheet lists
-pub found-most : (s : List ℕ) (tag start end : ℕ) → isSheet s ≡ true → findIn s tag ≡ At start end → (start ≤ end) × (end ≤ 145)
-found-most s tag start end ok e =
-    let i = found-inside s tag start end ok e in (i .rises, omega (arith, i .ends, at-most-145 s ok))
+  pub located-most : {l : Located} → l ≡ locatedOf s f tag → (l .start ≤ l .end) × (l .end < 256)
+  unfolding locatedOf
+  located-most is =
+      subst (λ (l : Located). (l .start ≤ l .end) × (l .end < 256)) (sym is)
+      (chosen (λ (l : Located). (l .start ≤ l .end) × (l .end < 256)) (goodSheets s f) (λ good. by-part good (partOf s f tag) (part-in s f tag)) (λ bad. (omega arith, omega arith)))
 
-module _ (s f : List ℕ) where
-  pub bad-service : isSheet s ≡ false → blockAnswer s f ≡ 9
-  unfolding blockAnswer
-  bad-service e = rw e
-
-  pub bad-factory : isSheet s ≡ true → isSheet f ≡ false → blockAnswer s f ≡ 9
-  unfolding blockAnswer
-  bad-factory h e = rw (h, e)
-
-  pub good : isSheet s ≡ true → isSheet f ≡ true → blockAnswer s f ≡ 0
-  unfolding blockAnswer
-  good h e = rw (h, e)
-
-  pub by-part : (tag n : ℕ) (p : Part) {r : ℕ} → blockAnswer s f ≡ n → partOf s f tag ≡ p → r ≡ blockNumber n p
-      → r ≡ blockNumber (blockAnswer s f) (partOf s f tag)
-  by-part tag n p ea ep er = rw (ea, ep) er
-
--- ---- rows
-
-Small : Step → ℕ → Type 0
-Small (Next mark row next) place = (place ≤ next) × (next ≤ 9946)
-Small End place = Unit
-Small NotCapture place = Unit
-
-pub step-most : (s : List ℕ) (row place : ℕ) {t : Step} {mark after next : ℕ} → t ≡ stepAt s row place → t ≡ Next mark after next
-    → (place ≤ next) × (next ≤ 9946)
-unfolding stepAt Small
-step-most s row place {t} {mark} {after} {next} e given = subst (λ (u : Step). Small u place) (sym e ∙ given) small
-  where
-    small : Small (stepAt s row place) place
-    small =
-        chosen (λ (u : Step). Small u place) (hasRow s row place)
-        (λ h.
-        let b = and-eq-true-iff (isCapture s && ltb row (countIn s)) (leb (place + lengthIn s row) (length s)) .0 h in
-        let c = and-eq-true-iff (isCapture s) (ltb row (countIn s)) .0 (b .0) .0 in
-        (omega arith, omega (arith, leb-true (place + lengthIn s row) (length s) (b .1), longest s c)))
-        (λ h. chosen (λ (u : Step). Small u place) (isCapture s) (λ i. tt) (λ i. tt))
+-- a row that a step shows lies within the longest capture
+pub step-most : (s : List ℕ) (row place : ℕ) {t : Step} → t ≡ stepAt s row place → RowFits place t
+unfolding stepAt
+step-most s row place is =
+    subst (RowFits place) (sym is)
+    (chosen (RowFits place) (hasRow s row place)
+    (λ h.
+    let b = and-eq-true-iff (isCapture s && ltb row (countIn s)) (leb (place + lengthIn s row) (length s)) .0 h in
+    let c = and-eq-true-iff (isCapture s) (ltb row (countIn s)) .0 (b .0) .0 in
+    (omega arith, omega (arith, leb-true (place + lengthIn s row) (length s) (b .1), longest s c)))
+    (λ h. chosen (RowFits place) (isCapture s) (λ i. tt) (λ i. tt)))

@@ -1,2 +1,1 @@
-pub mod Packed
-pub mod Calls
+pub mod Given

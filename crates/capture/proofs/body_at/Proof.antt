@@ -20,13 +20,13 @@ enum-told : tie.Need-enum-told
 enum-told c = search needs
 
 returns : tie.Need-returns
-returns c = body-shown _ _ _ (c .before .before .before .before .step-at .ensures) (c .before .before .next .given .1)
+returns c = body-shown _ _ _ _ (c .before .before .before .before .step-at .ensures) (c .before .before .next .given .1)
 
 returns-2 : tie.Need-returns-2
-returns-2 c = body-end _ _ _ (c .before .before .before .step-at .ensures) (c .before .enum-told .given .1)
+returns-2 c = body-end _ _ _ _ (c .before .before .before .step-at .ensures) (c .before .enum-told .given .1)
 
 returns-3 : tie.Need-returns-3
-returns-3 c = body-not _ _ _ (c .before .before .before .step-at .ensures) (c .before .enum-told2 .given .1)
+returns-3 c = body-not _ _ _ _ (c .before .before .before .step-at .ensures) (c .before .enum-told2 .given .1)
 
 pub body-at-spec : {M : Type 1} → statement M
 body-at-spec =

@@ -2,8 +2,8 @@ use native.Mathlib.Nat.{zero-add}
 use denote.Ref.{now}
 use lib.ListN.{length}
 use lib.Seq.{length-sets}
-use Rattle.clock.specs.Broadcast.{alarmsOf, chargerWordsOf, broadcastOf}
-use Rattle.clock.proofs.Sending.{in-a-row, alarms-small, at-most-16}
+use Rattle.broadcasts.specs.Broadcasts.{alarmsOf, chargerWordsOf, broadcastOf}
+use Rattle.broadcasts.proofs.Sending.{in-a-row, alarms-small, at-most-16}
 use Rattle.clock.proofs.Served.{sendable, assembled}
 use Rattle.pack.proofs.Soundness.{parts, pack-of-sound}
 use Rattle.rooms.specs.Rooms.{placed}

@@ -1,12 +1,11 @@
 -- `frame::recognise` meets its contract: each return by the tests that led there.
 -- Assumes nothing.
-use mathlib.Core.Path.{_≡_, sym}
+use mathlib.Core.Path.{_≡_}
 use Prim.Native.Nat.{_-_}
 use native.Mathlib.Omega.{arith}
 use borrow.Author.Needs.{needs}
 use borrow.Author.Tests.{eq-eqb, ne-eqb}
 use lib.ListN.{length}
-use lib.Seq.{length-take-le}
 use Rattle.pec.specs.Messages.{endsInPec}
 use Rattle.frame.specs.Transactions.{requestOf}
 use Rattle.frame.proofs.recognise.Statement.{statement}
@@ -67,9 +66,6 @@ returns-7 c =
     let mark = b .if3 .left in
     simp (some, own, mark, ne-eqb _ _ (c .before .if6 .left), ne-eqb _ _ (c .if7 .taken))
 
-slice-aggregate-pec : tie.Need-slice-aggregate-pec
-slice-aggregate-pec c = sym (length-take-le 4 (c .before .before .before .before .before .before .before .before .before .args .bytes .now) (omega arith))
-
 returns-8 : tie.Need-returns-8
 unfolding requestOf endsInPec
 returns-8 c =
@@ -111,7 +107,9 @@ recognise-spec =
     returns-6
     returns-7
     (λ c. search needs)
-    slice-aggregate-pec
+    (λ c. search needs)
+    (λ c. search needs)
+    (λ c. search needs)
     (λ c κs. search needs)
     returns-8
     (λ c κs. search needs)

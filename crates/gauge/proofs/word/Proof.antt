@@ -79,7 +79,7 @@ word-spec =
     (λ c. here (c .before .before .before .args .s) _ 0x13 _ (c .before .match .keys20) (c .average-time-to-full .ensures))
     (λ c. here (c .before .before .before .args .s) _ 0x14 _ (c .before .match .keys21) (c .charging-current .ensures))
     (λ c. here (c .before .before .args .s) _ 0x15 _ (c .match .keys22) refl)
-    (λ c. here (c .before .before .before .args .s) _ 0x16 _ (c .before .match .keys23) (c .status .ensures))
+    (λ c. here (c .before .before .before .args .s) _ 0x16 _ (c .before .match .keys23) (c .battery-status .ensures))
     (λ c. here (c .before .before .args .s) _ 0x17 _ (c .match .keys24) refl)
     (λ c. here (c .before .before .before .args .s) _ 0x18 _ (c .before .match .keys25) (c .design-capacity .ensures))
     (λ c. here (c .before .before .args .s) _ 0x19 _ (c .match .keys26) refl)

@@ -1,6 +1,7 @@
 use Prim.Native.Nat.{_+_}
 use lib.ListN.{drop}
-use Rattle.key.proofs.Keys.{named, unnamed, no-maker, no-device, no-words, is-found}
+use Rattle.names.proofs.Strokes.{named, unnamed}
+use Rattle.key.proofs.Keys.{no-maker, no-device, no-words, is-found}
 use Rattle.key.proofs.Words.{words-end, word-below, serial-below, tail-of}
 use borrow.Author.Needs.{needs}
 use native.Mathlib.Omega.{arith}

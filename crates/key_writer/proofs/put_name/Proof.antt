@@ -3,8 +3,8 @@ use Prim.Native.Nat.{_≤_, _+_, _-_}
 use native.Mathlib.Omega.{arith}
 use lib.ListN.{length, take}
 use lib.Seq.{sets, take-all}
-use Rattle.key.specs.Key.{escape}
-use Rattle.key.proofs.Form.{escape-length}
+use Rattle.names.specs.Names.{escape}
+use Rattle.names.proofs.Escaping.{escape-length}
 use Rattle.key_writer.proofs.Writing.{turn, escape-length-take}
 use Rattle.key_writer.proofs.put_name.Statement.{statement}
 use Rattle.key_writer.proofs.put_name.Tie as tie

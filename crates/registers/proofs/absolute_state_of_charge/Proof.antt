@@ -10,5 +10,8 @@ percent-requires : tie.Need-percent-requires
 percent-requires c κs =
     (omega (arith, tank-facts (c .args .p .tank) (c .pre .1) .charge), settings-facts (c .args .p .settings) (c .pre .0) .design)
 
+returns : tie.Need-returns
+returns c = simp (c .capped .ensures, c .before .percent .ensures)
+
 pub absolute-state-of-charge-spec : {M : Type 1} → statement M
-absolute-state-of-charge-spec = tie.close (tie.spec percent-requires (search needs) (λ c. simp (c .capped .ensures, c .before .percent .ensures)))
+absolute-state-of-charge-spec = tie.close (tie.spec percent-requires (search needs) returns)

@@ -5,8 +5,7 @@ use Rattle.snatchblock.proofs.snatchblock_exchange_check.Statement.{sta
 use Rattle.snatchblock.proofs.snatchblock_exchange_check.Tie as tie
 
 returns : tie.Need-returns
-returns c =
-    rw (c .pack-up .ensures, c .before .one-if .ensures .0, c .before .before .exchange-check .ensures)
+returns c = rw (c .checked .ensures, c .before .exchange-check .ensures)
 
 pub snatchblock-exchange-check-spec : {M : Type 1} → statement M
-snatchblock-exchange-check-spec = tie.close (tie.spec (λ c κs. search needs) (λ c κs. search needs) (λ c κs. search needs) returns)
+snatchblock-exchange-check-spec = tie.close (tie.spec (λ c κs. search needs) (λ c κs. search needs) returns)

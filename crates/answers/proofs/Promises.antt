@@ -1,0 +1,215 @@
+-- Each public function's answer is the lowest number whose condition holds.
+-- Assumes nothing.
+use Prim.Native.Nat.{ℕ}
+use mathlib.Core.Bool.{Bool, true, false, cond, not, _&&_, _||_}
+use mathlib.Core.List.{List, [], _∷_}
+use mathlib.Core.Option.{Option, none, some}
+use mathlib.Core.Path.{_≡_, refl, sym, _∙_, ap}
+use native.Mathlib.Omega.{arith}
+use borrow.Author.Tests.{eqb-true, leb-true, leb-false, lt-ltb, le-ltb}
+use lib.Dec.{eqb, ltb, leb}
+use lib.ListN.{length, getD}
+use Rattle.area.specs.Area.{isArea, storable, loadedOf}
+use Rattle.bus.specs.Transact.{packSide, transactAnswer, transactOf}
+use Rattle.capture.specs.Capture.{isCapture}
+use Rattle.capture.specs.Walk.{openedOf}
+use Rattle.capture_writer.specs.Writer.{captureWrote, captureAnswer, captureGiven, givenFit, roomAsked}
+use Rattle.capture_laws.proofs.Walked.{step-answer}
+use Rattle.rooms.specs.Rooms.{wrote}
+use Rattle.clock.specs.Broadcast.{sampleOf}
+use Rattle.commands.specs.Answers.{Side, sideAnswer, requestAnswer, readAnswer, writeAnswer}
+use Rattle.commands.specs.Commands.{kindOf}
+use Rattle.commands.specs.declared.Kind.{Kind}
+use Rattle.commands.specs.declared.Kind.the-variants.{ReadWrite, ReadOnly, Block, Optional, Reserved}
+use Rattle.frame.specs.Transactions.{requestOf, foreign, misshapen, miscoded, writeOf}
+use Rattle.frame.specs.declared.Request.the-variants.{Refused, Read}
+use Rattle.names.specs.Names.{nameIn, plainWrote}
+use Rattle.key.specs.Key.{Parts, readKey, readOf}
+use Rattle.key_writer.specs.Writing.{keyWrote, refused}
+use Rattle.pack.specs.SetUp.{setUpOf, setUpRefused}
+use Rattle.pack.specs.declared.Started.{Started}
+use Rattle.clock.specs.declared.Sampled.{Sampled}
+use Rattle.area.specs.declared.Loaded.{Loaded}
+use Rattle.rooms.specs.declared.Wrote.{Wrote}
+use Rattle.capture.specs.declared.Opened.{Opened}
+use Rattle.pec.specs.declared.Checked.{Checked}
+use Rattle.pec.specs.declared.Compared.{Compared}
+use Rattle.pack.specs.Sound.{soundOf}
+use Rattle.sheet.specs.Block.{blockAnswer, goodSheets}
+use Rattle.sheet_writer.specs.Writing.{sheetWrote, writable, short}
+use Rattle.answers.specs.Conditions.{commandOf, isReserved, isOptional, isReadOnly, isBlock, transactConditions, isNone, overflows}
+use Rattle.answers.specs.Lowest.{_when_, lowest, allAbove, rising, firstHolding}
+use Rattle.answers.specs.Promises.{TransactLowest, SetUpLowest, SampleLowest, LoadLowest, StoreLowest, WriteKeyLowest, ReadKeyLowest, UnescapeLowest, BlockLowest, WriteSheetLowest, OpenLowest, StepLowest, WriteCaptureLowest, ExchangeLowest, ComparisonLowest}
+use Rattle.answers.proofs.Lowest.{first-is-lowest}
+
+-- ---- one condition
+
+one : (n : ℕ) (c : Bool) → cond c n 0 ≡ lowest ((n when c) ∷ [])
+unfolding lowest
+one n true = refl
+one n false = refl
+
+-- the same where it is said what is served
+unless : (n : ℕ) (c : Bool) → cond c 0 n ≡ lowest ((n when not c) ∷ [])
+unfolding lowest
+unless n true = refl
+unless n false = refl
+
+-- two of them, in order
+two : (m n : ℕ) (a b : Bool) → rising ((m when a) ∷ (n when b) ∷ []) ≡ true → cond a m (cond b n 0) ≡ lowest ((m when a) ∷ (n when b) ∷ [])
+unfolding firstHolding
+two m n a b h = sym (first-is-lowest ((m when a) ∷ (n when b) ∷ []) h)
+
+-- the answer of what is given where a condition holds, and where it doesn't
+answers : {A : Type 0} (f : A → ℕ) (c : Bool) (x y : A) → f (cond c x y) ≡ cond c (f x) (f y)
+answers f true x y = refl
+answers f false x y = refl
+
+pub set-up-lowest : SetUpLowest
+unfolding setUpOf
+set-up-lowest u first = answers {A = Started} (λ r. r .answer) (setUpRefused u) _ _ ∙ one 11 (setUpRefused u)
+
+pub sample-lowest : SampleLowest
+unfolding sampleOf rising allAbove
+sample-lowest s sample room =
+    answers {A = Sampled} (λ r. r .answer) (not (soundOf s)) _ _
+    ∙ ap (cond (not (soundOf s)) 1) (answers {A = Sampled} (λ r. r .answer) (ltb room 16) _ _)
+    ∙ two 1 2 (not (soundOf s)) (ltb room 16) refl
+
+pub load-lowest : LoadLowest
+unfolding loadedOf
+load-lowest area = answers {A = Loaded} (λ r. r .answer) (isArea area) _ _ ∙ unless 1 (isArea area)
+
+pub store-lowest : StoreLowest
+store-lowest s room = unless 1 (storable s room)
+
+pub write-key-lowest : WriteKeyLowest
+unfolding keyWrote refused
+write-key-lowest maker device date serial room = answers {A = Wrote} (λ r. r .answer) (refused maker device room) _ _ ∙ one 12 (refused maker device room)
+
+read-lowest : (o : Option Parts) → readOf o .answer ≡ lowest ((13 when isNone o) ∷ [])
+read-lowest none = one 13 true
+read-lowest (some p) = one 13 false
+
+pub read-key-lowest : ReadKeyLowest
+read-key-lowest bytes = read-lowest (readKey bytes)
+
+plain-lowest : (o : Option (List ℕ)) (room : List ℕ) → plainWrote o room .answer ≡ lowest ((12 when overflows o room) ∷ (13 when isNone o) ∷ [])
+unfolding rising allAbove
+plain-lowest none room = two 12 13 false true refl
+plain-lowest (some name) room = answers {A = Wrote} (λ r. r .answer) (ltb (length room) (length name)) _ _ ∙ two 12 13 (ltb (length room) (length name)) false refl
+
+pub unescape-lowest : UnescapeLowest
+unescape-lowest part room = plain-lowest (nameIn part) room
+
+pub block-lowest : BlockLowest
+unfolding blockAnswer
+block-lowest service factory = unless 9 (goodSheets service factory)
+
+-- what isn't at least a number is below it
+not-at-least : (a b : ℕ) → not (leb a b) ≡ ltb b a
+not-at-least a b = tested (leb a b) refl
+  where
+    tested : (c : Bool) → leb a b ≡ c → not c ≡ ltb b a
+    tested true h = sym (le-ltb b a (leb-true a b h))
+    tested false h = sym (lt-ltb b a (leb-false a b h))
+
+-- not both is one or the other not
+not-both : (a b c : Bool) → not b ≡ c → not (a && b) ≡ not a || c
+not-both true b c h = h
+not-both false b c h = refl
+
+pub write-sheet-lowest : WriteSheetLowest
+unfolding sheetWrote writable
+write-sheet-lowest es room =
+    answers {A = Wrote} (λ r. r .answer) (writable es room) _ _
+    ∙ unless 12 (writable es room)
+    ∙ ap (λ c. lowest ((12 when c) ∷ [])) (not-both (short es) (leb 145 (length room)) (ltb (length room) 145) (not-at-least 145 (length room)))
+
+pub open-lowest : OpenLowest
+unfolding openedOf
+open-lowest bytes = answers {A = Opened} (λ r. r .answer) (isCapture bytes) _ _ ∙ unless 14 (isCapture bytes)
+
+pub step-lowest : StepLowest
+step-lowest bytes row place = step-answer bytes row place ∙ unless 14 (isCapture bytes)
+
+-- the answer is given as it is
+as-it-is : (a written : ℕ) → cond (eqb a 0) (wrote 0 written) (wrote a 0) .answer ≡ a
+as-it-is a written = tested (eqb a 0) refl
+  where
+    tested : (c : Bool) → eqb a 0 ≡ c → cond c (wrote 0 written) (wrote a 0) .answer ≡ a
+    tested true h = sym (eqb-true a 0 h)
+    tested false h = refl
+
+in-order : (a b : Bool) → _≡_ {A = ℕ} (cond a (cond b 0 14) 2) (cond (not a) 2 (cond (not b) 14 0))
+in-order true true = refl
+in-order true false = refl
+in-order false b = refl
+
+pub write-capture-lowest : WriteCaptureLowest
+unfolding captureWrote rising allAbove
+write-capture-lowest marks sizes bodies room =
+    let enough = leb (roomAsked marks sizes bodies) (length room) in
+    as-it-is (captureAnswer marks sizes bodies (length room)) (length (captureGiven marks sizes bodies))
+    ∙ in-order enough (givenFit marks sizes bodies)
+    ∙ two 2 14 (not enough) (not (givenFit marks sizes bodies)) refl
+    ∙ ap (λ c. lowest ((2 when c) ∷ (14 when not (givenFit marks sizes bodies)) ∷ [])) (not-at-least (roomAsked marks sizes bodies) (length room))
+
+pub exchange-lowest : ExchangeLowest
+exchange-lowest bytes =
+    let c = ltb (length bytes) 2 || ltb 37 (length bytes) in
+    answers {A = Checked} (λ r. r .answer) c _ _ ∙ one 15 c
+
+pub comparison-lowest : ComparisonLowest
+comparison-lowest xs ys =
+    let c = not (eqb (length xs) (length ys)) || ltb 37 (length xs) in
+    answers {A = Compared} (λ r. r .answer) c _ _ ∙ one 15 c
+
+-- ---- transactions
+
+-- a request's answer, by what stands in its way
+asks : (d : Side) (a b c read : Bool) (bytes : List ℕ) (checked : Bool)
+    → requestAnswer d (cond a (Refused 3) (cond b (Refused 4) (cond c (Refused 5) (cond read (Read (getD bytes 1 0)) (writeOf bytes checked)))))
+    ≡ cond a 3 (cond b 4 (cond c 5 (cond read (readAnswer d (commandOf bytes) (d .kinds (commandOf bytes))) (writeAnswer (d .kinds (commandOf bytes))))))
+asks d true b c read bytes checked = refl
+asks d false true c read bytes checked = refl
+asks d false false true read bytes checked = refl
+asks d false false false true bytes checked = refl
+asks d false false false false bytes checked = refl
+
+-- the same whether read or not
+under-read : (read : Bool) (n : ℕ) → cond read n n ≡ n
+under-read true n = refl
+under-read false n = refl
+
+-- a row's answer is the first of 6 to 10 that holds; only a word that is read only is AtRateTimeToFull
+by-row : (d : Side) (command : ℕ) (k : Kind) (read good atRate power : Bool)
+    → (atRate ≡ true → k ≡ ReadOnly) → d .blockAnswer command ≡ cond good 0 9 → d .wordAnswer command ≡ cond (atRate && power) 10 0
+    → cond read (readAnswer d command k) (writeAnswer k)
+    ≡ firstHolding ((6 when isReserved k) ∷ (7 when isOptional k) ∷ (8 when (not read && isReadOnly k)) ∷ (9 when (read && (isBlock k && not good))) ∷ (10 when (read && (atRate && power))) ∷ [])
+unfolding firstHolding
+by-row d command Reserved read good atRate power only block word = under-read read 6
+by-row d command Optional read good atRate power only block word = under-read read 7
+by-row d command Block true good true power only block word = absurd (let z : _≡_ {A = Bool} true false = ap isBlock (only refl) in let y : _≡_ {A = ℕ} 0 1 = cc in omega arith)
+by-row d command Block true true false power only block word = block
+by-row d command Block true false false power only block word = block
+by-row d command ReadOnly true good atRate power only block word = word
+by-row d command ReadWrite true good atRate power only block word = word
+by-row d command Block false good atRate power only block word = refl
+by-row d command ReadOnly false good atRate power only block word = refl
+by-row d command ReadWrite false good atRate power only block word = refl
+
+-- AtRateTimeToFull is read only
+at-rate : (command : ℕ) → eqb command 0x05 ≡ true → kindOf command ≡ ReadOnly
+unfolding kindOf
+at-rate command h = ap kindOf (eqb-true command 0x05 h)
+
+pub transact-lowest : TransactLowest
+unfolding transactOf transactAnswer sideAnswer requestOf firstHolding rising allAbove blockAnswer
+transact-lowest s service factory read bytes room =
+    let d = packSide s service factory in
+    ap (λ a. cond (not (soundOf s)) 1 (cond (ltb room 34) 2 a))
+    (asks d (foreign 0x16 bytes) (misshapen 0x16 read bytes) (miscoded read bytes) read bytes (eqb (length bytes) 5)
+    ∙ ap (λ a. cond (foreign 0x16 bytes) 3 (cond (misshapen 0x16 read bytes) 4 (cond (miscoded read bytes) 5 a)))
+    (by-row d (commandOf bytes) (kindOf (commandOf bytes)) read (goodSheets service factory) (eqb (commandOf bytes) 0x05) (s .pack .host .CapacityMode) (at-rate (commandOf bytes)) refl refl))
+    ∙ sym (first-is-lowest (transactConditions s service factory read bytes room) refl)

@@ -1,0 +1,146 @@
+-- The conditions of document 01's table for each public function, in the table's order. (1 of an area and 2 and 14 of a capture's writer are ours: docs/DECISIONS.md.)
+-- Assumes nothing.
+use Prim.Native.Nat.{ℕ}
+use mathlib.Core.Bool.{Bool, true, false, _&&_, _||_, not}
+use mathlib.Core.List.{List, [], _∷_}
+use mathlib.Core.Option.{Option, none, some}
+use lib.Dec.{eqb, ltb}
+use lib.ListN.{length, getD}
+use Rattle.area.specs.Area.{isArea, storable}
+use Rattle.capture.specs.Capture.{isCapture}
+use Rattle.capture_writer.specs.Writer.{givenFit, roomAsked}
+use Rattle.commands.specs.Commands.{kindOf}
+use Rattle.commands.specs.declared.Kind.{Kind}
+use Rattle.commands.specs.declared.Kind.the-variants.{ReadWrite, ReadOnly, Block, Optional, Reserved}
+use Rattle.frame.specs.Transactions.{foreign, misshapen, miscoded}
+use Rattle.names.specs.Names.{nameIn}
+use Rattle.key.specs.Key.{readKey}
+use Rattle.pack.specs.Sound.{soundOf}
+use Rattle.pack.specs.declared.Setup.{Setup}
+use Rattle.pack.specs.declared.State.{State}
+use Rattle.sheet.specs.Block.{goodSheets}
+use Rattle.sheet.specs.Sheet.{Entry}
+use Rattle.sheet_writer.specs.Writing.{short}
+use Rattle.answers.specs.Lowest.{Condition, _when_}
+
+-- ---- transactions
+
+-- the command of a transaction's bytes
+abbrev pub commandOf : List ℕ → ℕ
+commandOf bytes = getD bytes 1 0
+
+-- the row of a command is reserved
+abbrev pub isReserved : Kind → Bool
+isReserved Reserved = true
+isReserved Optional = false
+isReserved Block = false
+isReserved ReadOnly = false
+isReserved ReadWrite = false
+
+-- optional, not built
+abbrev pub isOptional : Kind → Bool
+isOptional Reserved = false
+isOptional Optional = true
+isOptional Block = false
+isOptional ReadOnly = false
+isOptional ReadWrite = false
+
+-- read only, a block among them
+abbrev pub isReadOnly : Kind → Bool
+isReadOnly Reserved = false
+isReadOnly Optional = false
+isReadOnly Block = true
+isReadOnly ReadOnly = true
+isReadOnly ReadWrite = false
+
+-- a block
+abbrev pub isBlock : Kind → Bool
+isBlock Reserved = false
+isBlock Optional = false
+isBlock Block = true
+isBlock ReadOnly = false
+isBlock ReadWrite = false
+
+-- 1: state isn't sound; 2: lent reply room under 34 bytes; 3: empty, or first byte isn't 0x16; 4: wrong size or form; 5: five-byte write, PEC wrong;
+-- 6: reserved command; 7: optional command not built; 8: write to a read-only command; 9: block read, a sheet is bad; 10: AtRateTimeToFull in power mode
+abbrev pub transactConditions : State → List ℕ → List ℕ → Bool → List ℕ → ℕ → List Condition
+transactConditions s service factory read bytes room =
+    (1 when not (soundOf s))
+    ∷ (2 when ltb room 34)
+    ∷ (3 when foreign 0x16 bytes)
+    ∷ (4 when misshapen 0x16 read bytes)
+    ∷ (5 when miscoded read bytes)
+    ∷ (6 when isReserved (kindOf (commandOf bytes)))
+    ∷ (7 when isOptional (kindOf (commandOf bytes)))
+    ∷ (8 when (not read && isReadOnly (kindOf (commandOf bytes))))
+    ∷ (9 when (read && (isBlock (kindOf (commandOf bytes)) && not (goodSheets service factory))))
+    ∷ (10 when (read && (eqb (commandOf bytes) 0x05 && s .pack .host .CapacityMode)))
+    ∷ []
+
+-- ---- the state
+
+-- 11: design capacity, full capacity or design voltage 0, or remaining above full
+abbrev pub setUpConditions : Setup → List Condition
+setUpConditions u = (11 when (eqb (u .DesignCapacity) 0 || eqb (u .full) 0 || eqb (u .DesignVoltage) 0 || ltb (u .full) (u .remaining))) ∷ []
+
+-- 1: state isn't sound; 2: broadcast room under 16 bytes
+abbrev pub sampleConditions : State → ℕ → List Condition
+sampleConditions s room = (1 when not (soundOf s)) ∷ (2 when ltb room 16) ∷ []
+
+-- 1: bytes are no area
+abbrev pub loadConditions : List ℕ → List Condition
+loadConditions area = (1 when not (isArea area)) ∷ []
+
+-- 1: the room isn't one for an area, or the count of kept samples isn't a byte
+abbrev pub storeConditions : State → List ℕ → List Condition
+storeConditions s room = (1 when not (storable s room)) ∷ []
+
+-- ---- keys, sheets, captures
+
+-- there is none
+abbrev pub isNone : {A : Type 0} → Option A → Bool
+isNone none = true
+isNone (some x) = false
+
+-- there is one, and it is longer than the room
+abbrev pub overflows : Option (List ℕ) → List ℕ → Bool
+overflows none room = false
+overflows (some name) room = ltb (length room) (length name)
+
+-- 12: a name over 32 bytes, room under 139
+abbrev pub writeKeyConditions : List ℕ → List ℕ → List ℕ → List Condition
+writeKeyConditions maker device room = (12 when (ltb 32 (length maker) || ltb 32 (length device) || ltb (length room) 139)) ∷ []
+
+-- 13: bytes aren't a key
+abbrev pub readKeyConditions : List ℕ → List Condition
+readKeyConditions bytes = (13 when isNone (readKey bytes)) ∷ []
+
+-- 12: the room is too short for the name; 13: no key shows such a part
+abbrev pub unescapeConditions : List ℕ → List ℕ → List Condition
+unescapeConditions part room = (12 when overflows (nameIn part) room) ∷ (13 when isNone (nameIn part)) ∷ []
+
+-- 9: a sheet is bad
+abbrev pub blockConditions : List ℕ → List ℕ → List Condition
+blockConditions service factory = (9 when not (goodSheets service factory)) ∷ []
+
+-- 12: a body over 32 bytes, room under 145
+abbrev pub writeSheetConditions : List Entry → List ℕ → List Condition
+writeSheetConditions es room = (12 when (not (short es) || ltb (length room) 145)) ∷ []
+
+-- 14: bytes aren't a capture
+abbrev pub captureConditions : List ℕ → List Condition
+captureConditions bytes = (14 when not (isCapture bytes)) ∷ []
+
+-- 2: room too short for the capture; 14: no rows of a capture
+abbrev pub writeCaptureConditions : List ℕ → List ℕ → List ℕ → List ℕ → List Condition
+writeCaptureConditions marks sizes bodies room = (2 when ltb (length room) (roomAsked marks sizes bodies)) ∷ (14 when not (givenFit marks sizes bodies)) ∷ []
+
+-- ---- PEC
+
+-- 15: outside 2 to 37 bytes
+abbrev pub exchangeConditions : List ℕ → List Condition
+exchangeConditions bytes = (15 when (ltb (length bytes) 2 || ltb 37 (length bytes))) ∷ []
+
+-- 15: unequal lengths or over 37
+abbrev pub comparisonConditions : List ℕ → List ℕ → List Condition
+comparisonConditions xs ys = (15 when (not (eqb (length xs) (length ys)) || ltb 37 (length xs))) ∷ []

@@ -1,0 +1,3 @@
+pub mod Conditions
+pub mod Lowest
+pub mod Promises

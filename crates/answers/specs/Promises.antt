@@ -1,0 +1,79 @@
+-- Each public function's answer is the lowest number whose condition holds, 0 when none does.
+-- Assumes nothing.
+use Prim.Native.Nat.{ℕ}
+use mathlib.Core.Bool.{Bool}
+use mathlib.Core.List.{List}
+use mathlib.Core.Path.{_≡_}
+use Rattle.area.specs.Area.{loadedOf, storedOf}
+use Rattle.bus.specs.Transact.{transactOf}
+use Rattle.capture.specs.Walk.{openedOf, stepAt, answerOf}
+use Rattle.capture_writer.specs.Writer.{captureWrote}
+use Rattle.clock.specs.Broadcast.{sampleOf}
+use Rattle.names.specs.Names.{nameIn, plainWrote}
+use Rattle.key.specs.Key.{readKey, readOf}
+use Rattle.key_writer.specs.Writing.{keyWrote}
+use Rattle.pack.specs.SetUp.{setUpOf}
+use Rattle.pack.specs.declared.Sample.{Sample}
+use Rattle.pack.specs.declared.Setup.{Setup}
+use Rattle.pack.specs.declared.State.{State}
+use Rattle.pec.specs.Messages.{exchangeCheck, bitComparison}
+use Rattle.sheet.specs.Block.{blockAnswer}
+use Rattle.sheet.specs.Sheet.{Entry}
+use Rattle.sheet_writer.specs.Writing.{sheetWrote}
+use Rattle.answers.specs.Conditions.{transactConditions, setUpConditions, sampleConditions, loadConditions, storeConditions, writeKeyConditions, readKeyConditions, unescapeConditions, blockConditions, writeSheetConditions, captureConditions, writeCaptureConditions, exchangeConditions, comparisonConditions}
+use Rattle.answers.specs.Lowest.{lowest}
+
+-- `transact`
+abbrev pub TransactLowest : Type 0
+TransactLowest =
+    (s : State) (service factory : List ℕ) (read : Bool) (bytes : List ℕ) (room : ℕ)
+    → transactOf s service factory read bytes room .answer ≡ lowest (transactConditions s service factory read bytes room)
+
+-- `set_up`
+abbrev pub SetUpLowest : Type 0
+SetUpLowest = (u : Setup) (first : Sample) → setUpOf u first .answer ≡ lowest (setUpConditions u)
+
+-- `sample`
+abbrev pub SampleLowest : Type 0
+SampleLowest = (s : State) (sample : Sample) (room : ℕ) → sampleOf s sample room .answer ≡ lowest (sampleConditions s room)
+
+-- `load` and `store`
+abbrev pub LoadLowest : Type 0
+LoadLowest = (area : List ℕ) → loadedOf area .answer ≡ lowest (loadConditions area)
+
+abbrev pub StoreLowest : Type 0
+StoreLowest = (s : State) (room : List ℕ) → storedOf s room ≡ lowest (storeConditions s room)
+
+-- `write_key`, `read_key`, `unescape`
+abbrev pub WriteKeyLowest : Type 0
+WriteKeyLowest = (maker device : List ℕ) (date serial : ℕ) (room : List ℕ) → keyWrote maker device date serial room .answer ≡ lowest (writeKeyConditions maker device room)
+
+abbrev pub ReadKeyLowest : Type 0
+ReadKeyLowest = (bytes : List ℕ) → readOf (readKey bytes) .answer ≡ lowest (readKeyConditions bytes)
+
+abbrev pub UnescapeLowest : Type 0
+UnescapeLowest = (part room : List ℕ) → plainWrote (nameIn part) room .answer ≡ lowest (unescapeConditions part room)
+
+-- `block_answer`, `write_sheet`
+abbrev pub BlockLowest : Type 0
+BlockLowest = (service factory : List ℕ) → blockAnswer service factory ≡ lowest (blockConditions service factory)
+
+abbrev pub WriteSheetLowest : Type 0
+WriteSheetLowest = (es : List Entry) (room : List ℕ) → sheetWrote es room .answer ≡ lowest (writeSheetConditions es room)
+
+-- `open`, `step_at`, `write_capture`
+abbrev pub OpenLowest : Type 0
+OpenLowest = (bytes : List ℕ) → openedOf bytes .answer ≡ lowest (captureConditions bytes)
+
+abbrev pub StepLowest : Type 0
+StepLowest = (bytes : List ℕ) (row place : ℕ) → answerOf (stepAt bytes row place) ≡ lowest (captureConditions bytes)
+
+abbrev pub WriteCaptureLowest : Type 0
+WriteCaptureLowest = (marks sizes bodies room : List ℕ) → captureWrote marks sizes bodies room .answer ≡ lowest (writeCaptureConditions marks sizes bodies room)
+
+-- `exchange_check`, `bit_comparison`
+abbrev pub ExchangeLowest : Type 0
+ExchangeLowest = (bytes : List ℕ) → exchangeCheck bytes .answer ≡ lowest (exchangeConditions bytes)
+
+abbrev pub ComparisonLowest : Type 0
+ComparisonLowest = (xs ys : List ℕ) → bitComparison xs ys .answer ≡ lowest (comparisonConditions xs ys)

@@ -1,0 +1,56 @@
+-- Wrong readings of the page, shut out: 11 to 13 are no charger commands at 0x16, and 0x12 is another's address.
+-- Assumes nothing.
+use Prim.Native.Nat.{ℕ, _≤_}
+use mathlib.Core.Bool.{true}
+use mathlib.Core.List.{_∷_}
+use mathlib.Core.Logic.{inl}
+use mathlib.Core.Path.{_≡_, refl, ap, _∙_}
+use native.Mathlib.Omega.{arith}
+use borrow.Author.Tests.{ne-eqb}
+use lib.ListN.{length}
+use Rattle.bus.proofs.Answers.{by-answer}
+use Rattle.bus.specs.Transact.{packSide}
+use Rattle.bus_laws.proofs.Exchanges.{served-reply}
+use Rattle.bus_laws.proofs.Served.{read-answer, write-answer}
+use Rattle.bus_laws.specs.Calls.{Call, answer, reply, Reads, ReadsOnly}
+use Rattle.bus_laws.specs.Promises.{NoChargerCommands, OtherAddresses}
+use Rattle.commands.specs.Answers.{readAnswer, writeAnswer, served, readBody}
+use Rattle.commands.specs.Commands.{kindOf}
+use Rattle.commands.specs.declared.Kind.{Kind}
+use Rattle.commands.specs.declared.Kind.the-variants.{ReadOnly}
+use Rattle.frame.specs.Transactions.{foreign, replyOf, wordBody}
+use Rattle.frame.specs.declared.Request.the-variants.{Refused}
+use Rattle.frame_laws.proofs.Requests.{refused-is}
+use Rattle.gauge.specs.Word.{wordOf, wordAnswer}
+use Rattle.pack.specs.Sound.{soundOf}
+use Rattle.pack.specs.declared.State.{State}
+
+-- a read-only row whose word is answered 0
+reads-only : (s : State) (c : Call) (command word : ℕ) → soundOf s ≡ true → 34 ≤ c .room
+    → kindOf command ≡ ReadOnly → wordAnswer s command ≡ 0 → wordOf s command ≡ word → ReadsOnly s c command word
+reads-only s c command word sound room k a w = (λ r. (none r, shown r), λ written h. write-answer s c command written sound room h ∙ ap writeAnswer k)
+  where
+    none : Reads c command → answer s c ≡ 0
+    none r = read-answer s c command sound room r ∙ ap (λ (q : Kind). readAnswer (packSide s (c .service) (c .factory)) command q) k ∙ a
+
+    shown : Reads c command → reply s c ≡ replyOf (c .bytes) (wordBody word)
+    shown r =
+        served-reply s c command r (ap (λ (n : ℕ). served n) (none r))
+        ∙ ap (λ (q : Kind). replyOf (c .bytes) (readBody (packSide s (c .service) (c .factory)) command q)) k
+        ∙ ap (λ (x : ℕ). replyOf (c .bytes) (wordBody x)) w
+
+pub no-charger-commands : NoChargerCommands
+unfolding kindOf wordOf
+no-charger-commands s c sound room = (
+  reads-only s c 0x11 _ sound room refl refl refl,
+  reads-only s c 0x12 _ sound room refl refl refl,
+  reads-only s c 0x13 _ sound room refl refl refl,
+)
+
+pub other-addresses : OtherAddresses
+other-addresses s c address rest sound room b n =
+    by-answer s (c .service) (c .factory) (c .read) (c .bytes) (c .room) (Refused 3) sound room
+    (refused-is 0x16 (c .read) (c .bytes) 3 .1 (inl (refl, ap (foreign 0x16) b ∙ elsewhere)))
+  where
+    elsewhere : foreign 0x16 (address ∷ rest) ≡ true
+    elsewhere = simp (ne-eqb address 0x16 n, ne-eqb (length (address ∷ rest)) 0 (λ e. omega (arith, e)))

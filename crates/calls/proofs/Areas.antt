@@ -1,0 +1,187 @@
+-- The calls on an area: what a load tells, what a store leaves, and each call's numbers put together.
+-- Assumes nothing.
+use mathlib.Core.Bool.{Bool, true, false, not, true≢false}
+use mathlib.Core.List.{List}
+use mathlib.Core.Path.{_≡_, refl, sym, ap, ap₂, _∙_}
+use Prim.Native.Nat.{ℕ, _≤_}
+use native.Mathlib.Omega.{arith}
+use borrow.Author.Tests.{eq-eqb, ne-eqb, le-leb}
+use lib.Dec.{ltb}
+use lib.ListN.{length, length-append}
+use Rattle.area.specs.Area.{areaLength, areaOf, stateIn, isArea, loadedOf}
+use Rattle.area.specs.Area as area
+use Rattle.area.specs.declared.Loaded.{Loaded}
+use Rattle.bus.proofs.Answers.{unsound}
+use Rattle.bus.specs.Transact.{packSide, packAfter, asked, transactAnswer, transactOf}
+use Rattle.bus.specs.Transact as bus
+use Rattle.commands.specs.Answers.{served, readBody, sideReply}
+use Rattle.commands.specs.Commands.{kindOf}
+use Rattle.commands.specs.declared.Kind.{Kind}
+use Rattle.commands.specs.declared.Kind.the-variants.{ReadWrite, ReadOnly, Block, Optional, Reserved}
+use Rattle.bus.specs.declared.Transacted.{Transacted}
+use Rattle.broadcasts.proofs.Sending.{at-most-16}
+use Rattle.clock.specs.Broadcast.{refusedSample, servedSample, sampledOf, sampleOf}
+use Rattle.clock.specs.Broadcast as clock
+use Rattle.clock.specs.Sample.{movedOf}
+use Rattle.clock.specs.declared.Sampled.{Sampled}
+use Rattle.frame.specs.Transactions.{replyOf}
+use Rattle.frame.specs.declared.Request.{Request}
+use Rattle.frame.specs.declared.Request.the-variants.{Refused, Read, Write}
+use Rattle.pack.proofs.Soundness.{parts, pack-of-sound}
+use Rattle.pack.specs.SetUp.{setUpRefused, packOf, setUpOf}
+use Rattle.pack.specs.Sound.{soundOf}
+use Rattle.pack.specs.declared.Pack.{Pack}
+use Rattle.pack.specs.declared.Sample.{Sample}
+use Rattle.pack.specs.declared.Setup.{Setup}
+use Rattle.pack.specs.declared.Started.{Started}
+use Rattle.pack.specs.declared.State.{State}
+use Rattle.recent.proofs.Soundness.{recent-facts}
+use Rattle.sheet.proofs.Names.{block-short}
+use Rattle.packed.proofs.Choice.{chosen}
+use Rattle.calls.specs.Calls.{startNumber, startArea, stays, areaAfter, sampleNumber, sampleArea, sampleRoom, transactNumber, transactArea, transactRoom}
+use Rattle.packed.specs.Packed.{packed}
+use Rattle.written.specs.Written.{packWritten}
+
+-- ---- loaded and stored
+
+pub no-area : (a : List ℕ) {l : Loaded} → l ≡ loadedOf a → (l .answer ≡ 0 → ⊥) → isArea a ≡ false
+unfolding loadedOf
+no-area a e h =
+    chosen (λ (m : Loaded). (m .answer ≡ 0 → ⊥) → isArea a ≡ false) (isArea a) (λ f k. absurd (k refl)) (λ f k. f)
+    (λ z. h (ap (λ (m : Loaded). m .answer) e ∙ z))
+
+pub an-area : (a : List ℕ) {l : Loaded} → l ≡ loadedOf a → l .answer ≡ 0 → (isArea a ≡ true) × (l .state ≡ stateIn a)
+unfolding loadedOf
+an-area a e z =
+    let t =
+    chosen (λ (m : Loaded). m .answer ≡ 0 → (isArea a ≡ true) × (m .state ≡ stateIn a)) (isArea a) (λ f k. (f, refl))
+    (λ f k. absurd (omega (arith, k))) (sym (ap (λ (m : Loaded). m .answer) e) ∙ z) in
+    (t .0, ap (λ (m : Loaded). m .state) e ∙ t .1)
+
+-- a state of at most 60 samples goes into an area
+pub stored : (s : State) (room : List ℕ) → length room ≡ areaLength → s .pack .recent .count ≤ 60 → area.storedRoom s room ≡ areaOf s
+unfolding area.storedRoom
+stored s room n most = rw (eq-eqb _ _ n, le-leb (s .pack .recent .count) 255 (omega (arith, most)))
+
+-- ---- set-up
+
+pub start-refused : (a : List ℕ) {t u : Started} {r : ℕ} → length a ≡ areaLength → t ≡ u → (t .answer ≡ 0 → ⊥) → r ≡ packed (t .answer) 0
+    → (r ≡ startNumber a u) × (a ≡ startArea a u)
+start-refused a {t} {u} {r} size e h er =
+    let ea : t .answer ≡ u .answer = ap (λ (x : Started). x .answer) e in
+    let same : r ≡ u .answer = omega (arith, er, ea) in
+    (rw (eq-eqb _ _ size) same, rw (eq-eqb _ _ size, ne-eqb (u .answer) 0 (λ z. h (ea ∙ z))))
+
+start-most : (x : Setup) (y : Sample) → setUpOf x y .state .pack .recent .count ≤ 60
+unfolding setUpOf packOf
+start-most x y = chosen (λ (t : Started). t .state .pack .recent .count ≤ 60) (setUpRefused x) (λ e. omega arith) (λ e. omega arith)
+
+pub start-served : (a : List ℕ) (x : Setup) (y : Sample) {t : Started} {a′ : List ℕ} → length a ≡ areaLength → t ≡ setUpOf x y → t .answer ≡ 0
+    → a′ ≡ area.storedRoom (t .state) a → (0 ≡ startNumber a (setUpOf x y)) × (a′ ≡ startArea a (setUpOf x y))
+start-served a x y size e z ea =
+    let z′ : setUpOf x y .answer ≡ 0 = sym (ap (λ (s : Started). s .answer) e) ∙ z in
+    let put = ea ∙ ap (λ (s : Started). area.storedRoom (s .state) a) e ∙ stored (setUpOf x y .state) a size (start-most x y) in
+    (rw (eq-eqb _ _ size) (sym z′), rw (eq-eqb _ _ size, eq-eqb _ _ z′) put)
+
+-- ---- samples
+
+-- what holds of a refusal by 1 or 2 and of a served sample holds of every sample
+by-answer : (P : Sampled → Type 0) (s : State) (x : Sample) (n : ℕ) → P (refusedSample 1 s) → P (refusedSample 2 s) → P (servedSample s x) → P (sampleOf s x n)
+unfolding sampleOf
+by-answer P s x n one two done = chosen P (not (soundOf s)) (λ e. one) (λ e. chosen P (ltb n 16) (λ f. two) (λ f. done))
+
+pub sample-count : (s : State) (x : Sample) (n : ℕ) → stays (sampleOf s x n .answer) ≡ false → sampleOf s x n .state .pack .recent .count ≤ 60
+unfolding sampledOf movedOf
+sample-count s x n =
+    by-answer (λ r. stays (r .answer) ≡ false → r .state .pack .recent .count ≤ 60) s x n (λ h. absurd (true≢false h)) (λ h. absurd (true≢false h))
+    (λ h. omega arith)
+
+pub sample-most : (s : State) (x : Sample) (n : ℕ) → sampleOf s x n .length ≤ 16
+sample-most s x n = by-answer (λ r. r .length ≤ 16) s x n (omega arith) (omega arith) (at-most-16 (movedOf (s .pack) x))
+
+module _ (a : List ℕ) (x : Sample) (room : List ℕ) {l : Loaded} (loaded : l ≡ loadedOf a) where
+  pub sample-none : (l .answer ≡ 0 → ⊥) → (1 ≡ sampleNumber a x room) × ((a ≡ sampleArea a x room) × (room ≡ sampleRoom a x room))
+  unfolding sampleNumber sampleArea sampleRoom
+  sample-none h = let none = no-area a loaded h in (rw none, (rw none, rw none))
+
+  pub sample-done : {y : Sample} {out : Sampled} {r : ℕ} {a′ room′ : List ℕ} → l .answer ≡ 0 → y ≡ x → out ≡ sampleOf (l .state) y (length room)
+      → room′ ≡ clock.broadcastRoom (l .state) y room → a′ ≡ areaAfter a (out .answer) (out .state) → r ≡ packed (out .answer) (out .length)
+      → (r ≡ sampleNumber a x room) × ((a′ ≡ sampleArea a x room) × (room′ ≡ sampleRoom a x room))
+  unfolding sampleNumber sampleArea sampleRoom
+  sample-done {y} {out} z same eo em ea er =
+      let t = an-area a loaded z in
+      let o = eo ∙ ap₂ (λ (s : State) (v : Sample). sampleOf s v (length room)) (t .1) same in (
+        rw (t .0) (er ∙ ap (λ (q : Sampled). packed (q .answer) (q .length)) o),
+        (
+          rw (t .0) (ea ∙ ap (λ (q : Sampled). areaAfter a (q .answer) (q .state)) o),
+          rw (t .0) (em ∙ ap₂ (λ (s : State) (v : Sample). clock.broadcastRoom s v room) (t .1) same),
+        ),
+      )
+
+-- ---- transactions
+
+recent-stays : (p : Pack) (q : Request) (answer : ℕ) → packAfter p q answer .recent ≡ p .recent
+unfolding packWritten
+recent-stays p (Refused n) answer = refl
+recent-stays p (Read command) answer = refl
+recent-stays p (Write command word checked) answer = chosen (λ (u : Pack). u .recent ≡ p .recent) (served answer) (λ e. refl) (λ e. refl)
+
+body-most : (s : State) (service factory : List ℕ) (k : Kind) (command : ℕ) → length (readBody (packSide s service factory) command k) ≤ 33
+body-most s service factory ReadWrite command = omega arith
+body-most s service factory ReadOnly command = omega arith
+body-most s service factory Block command = omega (arith, block-short service factory command)
+body-most s service factory Optional command = omega arith
+body-most s service factory Reserved command = omega arith
+
+one-more : (request body : List ℕ) → length body ≤ 33 → length (replyOf request body) ≤ 34
+unfolding replyOf
+one-more request body h = rw length-append (omega (arith, h))
+
+module _ (s : State) (service factory : List ℕ) (read : Bool) (bytes : List ℕ) (room : ℕ) where
+  pub transact-count : stays (transactOf s service factory read bytes room .answer) ≡ false
+      → transactOf s service factory read bytes room .state .pack .recent .count ≤ 60
+  unfolding transactOf
+  transact-count h = go (soundOf s) refl
+    where
+      answer : ℕ
+      answer = transactAnswer s service factory read bytes room
+
+      go : (b : Bool) → soundOf s ≡ b → packAfter (s .pack) (asked read bytes) answer .recent .count ≤ 60
+      go true e = rw (recent-stays (s .pack) (asked read bytes) answer) (recent-facts (s .pack .recent) (parts (s .pack) (pack-of-sound s e) .recent) .most)
+      go false e = absurd (true≢false (sym (ap stays (unsound s service factory read bytes room e)) ∙ h))
+
+  reply-most : (q : Request) (answer : ℕ) → length (sideReply (packSide s service factory) bytes q answer) ≤ 34
+  reply-most (Refused n) answer = omega arith
+  reply-most (Read command) answer =
+      chosen (λ (l : List ℕ). length l ≤ 34) (served answer)
+      (λ e. one-more bytes (readBody (packSide s service factory) command (kindOf command)) (body-most s service factory (kindOf command) command)) (λ e. omega arith)
+  reply-most (Write command word checked) answer = omega arith
+
+  pub transact-most : transactOf s service factory read bytes room .length ≤ 34
+  unfolding transactOf
+  transact-most = reply-most (asked read bytes) (transactAnswer s service factory read bytes room)
+
+module _ (a service factory : List ℕ) (read : Bool) (bytes room : List ℕ) {l : Loaded} (loaded : l ≡ loadedOf a) where
+  pub transact-none : (l .answer ≡ 0 → ⊥)
+      → (1 ≡ transactNumber a service factory read bytes room)
+      × ((a ≡ transactArea a service factory read bytes room) × (room ≡ transactRoom a service factory read bytes room))
+  unfolding transactNumber transactArea transactRoom
+  transact-none h = let none = no-area a loaded h in (rw none, (rw none, rw none))
+
+  pub transact-done : {out : Transacted} {r : ℕ} {a′ room′ : List ℕ} → l .answer ≡ 0
+      → out ≡ transactOf (l .state) service factory read bytes (length room)
+      → room′ ≡ bus.replyRoom (l .state) service factory read bytes room
+      → a′ ≡ areaAfter a (out .answer) (out .state)
+      → r ≡ packed (out .answer) (out .length)
+      → (r ≡ transactNumber a service factory read bytes room)
+      × ((a′ ≡ transactArea a service factory read bytes room) × (room′ ≡ transactRoom a service factory read bytes room))
+  unfolding transactNumber transactArea transactRoom
+  transact-done {out} z eo em ea er =
+      let t = an-area a loaded z in
+      let o = eo ∙ ap (λ (s : State). transactOf s service factory read bytes (length room)) (t .1) in (
+        rw (t .0) (er ∙ ap (λ (q : Transacted). packed (q .answer) (q .length)) o),
+        (
+          rw (t .0) (ea ∙ ap (λ (q : Transacted). areaAfter a (q .answer) (q .state)) o),
+          rw (t .0) (em ∙ ap (λ (s : State). bus.replyRoom s service factory read bytes room) (t .1)),
+        ),
+      )

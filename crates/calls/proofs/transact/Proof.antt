@@ -1,0 +1,43 @@
+-- `calls::transact` meets its contract.
+-- Assumes nothing.
+use borrow.Author.Needs.{needs}
+use native.Mathlib.Omega.{arith}
+use mathlib.Core.Path.{sym, ap, _∙_}
+use lib.ListN.{length}
+use Rattle.area.proofs.Whole.{area-size}
+use Rattle.calls.proofs.Areas.{an-area, transact-count, transact-most, transact-none, transact-done}
+use Rattle.bus.specs.declared.Transacted.{Transacted}
+use Rattle.calls.specs.Calls.{stays}
+use Rattle.calls.proofs.transact.Statement.{statement}
+use Rattle.calls.proofs.transact.Tie as tie
+
+returns : tie.Need-returns
+returns c =
+    let a = c .before .before .before .before .before .before .before .before .before .args in
+    transact-none (a .area .now) (a .service .now) (a .factory .now) (a .read) (a .bytes .now) (a .room .now) (c .before .before .load .ensures .0) (c .if1 .taken)
+
+keep-requires : tie.Need-keep-requires
+keep-requires c κs =
+    let a = c .before .before .before .before .before .before .before .before .before .before .before .before .before .before .args in
+    let out = c .before .before .before .transact .ensures .0 in
+    let held = c .before .before .before .before .before .before .before .load in (
+      area-size (a .area .now) (an-area (a .area .now) (held .ensures .0) (c .before .before .before .before .before .if1 .left) .0),
+      λ h.
+          let count = transact-count (held .result .state) (a .service .now) (a .factory .now) (a .read) (a .bytes .now) (length (a .room .now)) (sym (ap (λ (q : Transacted). stays (q .answer)) out) ∙ h) in
+          omega (arith, ap (λ (q : Transacted). q .state .pack .recent .count) out, count),
+    )
+
+pack-up-requires : tie.Need-pack-up-requires
+pack-up-requires c κs =
+    let a = c .before .before .before .before .before .before .before .before .before .before .before .before .before .before .before .before .before .args in
+    let e = ap (λ (q : Transacted). q .length) (c .before .before .before .before .before .before .transact .ensures .0) in
+    omega (arith, e, transact-most (c .before .before .before .before .before .before .before .before .before .before .load .result .state) (a .service .now) (a .factory .now) (a .read) (a .bytes .now) (length (a .room .now)))
+
+returns-2 : tie.Need-returns-2
+returns-2 c =
+    let a = c .before .before .before .before .before .before .before .before .before .before .before .before .before .before .before .before .before .before .args in
+    let out = c .before .before .before .before .before .before .before .transact .ensures in
+    transact-done (a .area .now) (a .service .now) (a .factory .now) (a .read) (a .bytes .now) (a .room .now) (c .before .before .before .before .before .before .before .before .before .before .before .load .ensures .0) (c .before .before .before .before .before .before .before .before .before .if1 .left) (out .0) (out .1) (c .before .before .before .keep .ensures) (c .pack-up .ensures)
+
+pub transact-spec : {M : Type 1} → statement M
+transact-spec = tie.close (tie.spec (λ c κs. search needs) (λ c. search needs) returns (λ c κs. search needs) keep-requires pack-up-requires (λ c. search needs) (λ c. search needs) returns-2)

@@ -1,0 +1,4 @@
+pub mod Escaping
+pub mod Reading
+pub mod Strokes
+pub mod Unescaping

@@ -1,0 +1,66 @@
+-- Each contract of the entries for C is the one told, and allows one outcome.
+-- Assumes nothing.
+use mathlib.Core.Path.{refl}
+use Rattle.outcomes.specs.Outcome.{Settled}
+use Rattle.outcomes.specs.ForC.{snatchblockPecTerms, snatchblockExchangeCheckTerms, snatchblockBitComparisonTerms, snatchblockWriteKeyTerms, snatchblockReadKeyTerms, snatchblockUnescapeTerms, snatchblockWriteSheetTerms, snatchblockIsSheetTerms, snatchblockBlockTerms, snatchblockOpenCaptureTerms, snatchblockStepCaptureTerms, snatchblockSetUpTerms, snatchblockSoundTerms, snatchblockSampleTerms, snatchblockTransactTerms}
+use Rattle.outcomes.proofs.One.{settled}
+use Rattle.snatchblock.proofs.snatchblock_pec as snatchblock-pec-owed
+use Rattle.snatchblock.proofs.snatchblock_exchange_check as snatchblock-exchange-check-owed
+use Rattle.snatchblock.proofs.snatchblock_bit_comparison as snatchblock-bit-comparison-owed
+use Rattle.snatchblock.proofs.snatchblock_write_key as snatchblock-write-key-owed
+use Rattle.snatchblock.proofs.snatchblock_read_key as snatchblock-read-key-owed
+use Rattle.snatchblock.proofs.snatchblock_unescape as snatchblock-unescape-owed
+use Rattle.snatchblock.proofs.snatchblock_write_sheet as snatchblock-write-sheet-owed
+use Rattle.snatchblock.proofs.snatchblock_is_sheet as snatchblock-is-sheet-owed
+use Rattle.snatchblock.proofs.snatchblock_block as snatchblock-block-owed
+use Rattle.snatchblock.proofs.snatchblock_open_capture as snatchblock-open-capture-owed
+use Rattle.snatchblock.proofs.snatchblock_step_capture as snatchblock-step-capture-owed
+use Rattle.snatchblock.proofs.snatchblock_set_up as snatchblock-set-up-owed
+use Rattle.snatchblock.proofs.snatchblock_sound as snatchblock-sound-owed
+use Rattle.snatchblock.proofs.snatchblock_sample as snatchblock-sample-owed
+use Rattle.snatchblock.proofs.snatchblock_transact as snatchblock-transact-owed
+
+pub snatchblock-pec-settled : Settled (λ M. snatchblock-pec-owed.clauses {M = M}) snatchblockPecTerms
+snatchblock-pec-settled = settled snatchblockPecTerms (λ M 𝓤 H A memory run. refl)
+
+pub snatchblock-exchange-check-settled : Settled (λ M. snatchblock-exchange-check-owed.clauses {M = M}) snatchblockExchangeCheckTerms
+snatchblock-exchange-check-settled = settled snatchblockExchangeCheckTerms (λ M 𝓤 H A memory run. refl)
+
+pub snatchblock-bit-comparison-settled : Settled (λ M. snatchblock-bit-comparison-owed.clauses {M = M}) snatchblockBitComparisonTerms
+snatchblock-bit-comparison-settled = settled snatchblockBitComparisonTerms (λ M 𝓤 H A memory run. refl)
+
+pub snatchblock-write-key-settled : Settled (λ M. snatchblock-write-key-owed.clauses {M = M}) snatchblockWriteKeyTerms
+snatchblock-write-key-settled = settled snatchblockWriteKeyTerms (λ M 𝓤 H A memory run. refl)
+
+pub snatchblock-read-key-settled : Settled (λ M. snatchblock-read-key-owed.clauses {M = M}) snatchblockReadKeyTerms
+snatchblock-read-key-settled = settled snatchblockReadKeyTerms (λ M 𝓤 H A memory run. refl)
+
+pub snatchblock-unescape-settled : Settled (λ M. snatchblock-unescape-owed.clauses {M = M}) snatchblockUnescapeTerms
+snatchblock-unescape-settled = settled snatchblockUnescapeTerms (λ M 𝓤 H A memory run. refl)
+
+pub snatchblock-write-sheet-settled : Settled (λ M. snatchblock-write-sheet-owed.clauses {M = M}) snatchblockWriteSheetTerms
+snatchblock-write-sheet-settled = settled snatchblockWriteSheetTerms (λ M 𝓤 H A memory run. refl)
+
+pub snatchblock-is-sheet-settled : Settled (λ M. snatchblock-is-sheet-owed.clauses {M = M}) snatchblockIsSheetTerms
+snatchblock-is-sheet-settled = settled snatchblockIsSheetTerms (λ M 𝓤 H A memory run. refl)
+
+pub snatchblock-block-settled : Settled (λ M. snatchblock-block-owed.clauses {M = M}) snatchblockBlockTerms
+snatchblock-block-settled = settled snatchblockBlockTerms (λ M 𝓤 H A memory run. refl)
+
+pub snatchblock-open-capture-settled : Settled (λ M. snatchblock-open-capture-owed.clauses {M = M}) snatchblockOpenCaptureTerms
+snatchblock-open-capture-settled = settled snatchblockOpenCaptureTerms (λ M 𝓤 H A memory run. refl)
+
+pub snatchblock-step-capture-settled : Settled (λ M. snatchblock-step-capture-owed.clauses {M = M}) snatchblockStepCaptureTerms
+snatchblock-step-capture-settled = settled snatchblockStepCaptureTerms (λ M 𝓤 H A memory run. refl)
+
+pub snatchblock-set-up-settled : Settled (λ M. snatchblock-set-up-owed.clauses {M = M}) snatchblockSetUpTerms
+snatchblock-set-up-settled = settled snatchblockSetUpTerms (λ M 𝓤 H A memory run. refl)
+
+pub snatchblock-sound-settled : Settled (λ M. snatchblock-sound-owed.clauses {M = M}) snatchblockSoundTerms
+snatchblock-sound-settled = settled snatchblockSoundTerms (λ M 𝓤 H A memory run. refl)
+
+pub snatchblock-sample-settled : Settled (λ M. snatchblock-sample-owed.clauses {M = M}) snatchblockSampleTerms
+snatchblock-sample-settled = settled snatchblockSampleTerms (λ M 𝓤 H A memory run. refl)
+
+pub snatchblock-transact-settled : Settled (λ M. snatchblock-transact-owed.clauses {M = M}) snatchblockTransactTerms
+snatchblock-transact-settled = settled snatchblockTransactTerms (λ M 𝓤 H A memory run. refl)

@@ -1,0 +1,140 @@
+-- The entries for C: what comes out of each public function, and what must.
+-- Assumes nothing.
+use Prim.Native.Nat.{ℕ}
+use Rattle.calls.specs.Calls.{sampleArea, sampleNumber, sampleRoom, soundIn, startArea, startNumber, transactArea, transactNumber, transactRoom}
+use Rattle.capture.specs.Walk.{openedOf, stepAt}
+use Rattle.key.specs.Key as keys
+use Rattle.key_writer.specs.Writing as writing
+use Rattle.names.specs.Names as names
+use Rattle.outcomes.specs.Outcome.{Terms, termsOf}
+use Rattle.pack.specs.SetUp.{setUpOf}
+use Rattle.packed.specs.Packed.{checkNumber, comparisonNumber, locatedNumber, openedNumber, readNumber, stepNumber, wroteNumber}
+use Rattle.pec.specs.Messages.{bitComparison, exchangeCheck}
+use Rattle.pec.specs.Pec.{pecOf}
+use Rattle.sheet.specs.Block.{locatedOf}
+use Rattle.sheet.specs.Sheet.{isSheet}
+use Rattle.sheet_writer.specs.Writing as sheets
+use Rattle.snatchblock.specs.Given.{sampleWith, setupWith}
+use denote.Ref.{now}
+use mathlib.Core.Bool.{Bool}
+use mathlib.Core.List.{List, [], _∷_}
+use Rattle.snatchblock.proofs.snatchblock_pec as snatchblock-pec-owed
+use Rattle.snatchblock.proofs.snatchblock_exchange_check as snatchblock-exchange-check-owed
+use Rattle.snatchblock.proofs.snatchblock_bit_comparison as snatchblock-bit-comparison-owed
+use Rattle.snatchblock.proofs.snatchblock_write_key as snatchblock-write-key-owed
+use Rattle.snatchblock.proofs.snatchblock_read_key as snatchblock-read-key-owed
+use Rattle.snatchblock.proofs.snatchblock_unescape as snatchblock-unescape-owed
+use Rattle.snatchblock.proofs.snatchblock_write_sheet as snatchblock-write-sheet-owed
+use Rattle.snatchblock.proofs.snatchblock_is_sheet as snatchblock-is-sheet-owed
+use Rattle.snatchblock.proofs.snatchblock_block as snatchblock-block-owed
+use Rattle.snatchblock.proofs.snatchblock_open_capture as snatchblock-open-capture-owed
+use Rattle.snatchblock.proofs.snatchblock_step_capture as snatchblock-step-capture-owed
+use Rattle.snatchblock.proofs.snatchblock_set_up as snatchblock-set-up-owed
+use Rattle.snatchblock.proofs.snatchblock_sound as snatchblock-sound-owed
+use Rattle.snatchblock.proofs.snatchblock_sample as snatchblock-sample-owed
+use Rattle.snatchblock.proofs.snatchblock_transact as snatchblock-transact-owed
+
+-- `snatchblock_pec`
+abbrev pub snatchblockPecTerms : Terms snatchblock-pec-owed.ended
+snatchblockPecTerms = termsOf
+    (ℕ ∷ [])
+    (λ κs r _. (r, tt))
+    (λ κs (bytes, _). (pecOf (now bytes), tt))
+
+-- `snatchblock_exchange_check`
+abbrev pub snatchblockExchangeCheckTerms : Terms snatchblock-exchange-check-owed.ended
+snatchblockExchangeCheckTerms = termsOf
+    (ℕ ∷ [])
+    (λ κs r _. (r, tt))
+    (λ κs (bytes, _). (checkNumber (exchangeCheck (now bytes)), tt))
+
+-- `snatchblock_bit_comparison`
+abbrev pub snatchblockBitComparisonTerms : Terms snatchblock-bit-comparison-owed.ended
+snatchblockBitComparisonTerms = termsOf
+    (ℕ ∷ [])
+    (λ κs r _. (r, tt))
+    (λ κs (a, (b, _)). (comparisonNumber (bitComparison (now a) (now b)), tt))
+
+-- `snatchblock_write_key`
+abbrev pub snatchblockWriteKeyTerms : Terms snatchblock-write-key-owed.ended
+snatchblockWriteKeyTerms = termsOf
+    (ℕ ∷ List ℕ ∷ [])
+    (λ κs r (_, (_, (_, (_, (room, _))))). (r, (now room, tt)))
+    (λ κs (maker, (device, (date, (serial, (room, _))))). (wroteNumber (writing.keyWrote (now maker) (now device) date serial (now room)), (writing.keyRoom (now maker) (now device) date serial (now room), tt)))
+
+-- `snatchblock_read_key`
+abbrev pub snatchblockReadKeyTerms : Terms snatchblock-read-key-owed.ended
+snatchblockReadKeyTerms = termsOf
+    (ℕ ∷ [])
+    (λ κs r _. (r, tt))
+    (λ κs (key, _). (readNumber (keys.readKey (now key)), tt))
+
+-- `snatchblock_unescape`
+abbrev pub snatchblockUnescapeTerms : Terms snatchblock-unescape-owed.ended
+snatchblockUnescapeTerms = termsOf
+    (ℕ ∷ List ℕ ∷ [])
+    (λ κs r (_, (room, _)). (r, (now room, tt)))
+    (λ κs (part, (room, _)). (wroteNumber (names.plainWrote (names.nameIn (now part)) (now room)), (names.plainRoom (names.nameIn (now part)) (now room), tt)))
+
+-- `snatchblock_write_sheet`
+abbrev pub snatchblockWriteSheetTerms : Terms snatchblock-write-sheet-owed.ended
+snatchblockWriteSheetTerms = termsOf
+    (ℕ ∷ List ℕ ∷ [])
+    (λ κs r (room, (_, (_, (_, (_, (_, (_, (_, (_, _))))))))). (r, (now room, tt)))
+    (λ κs (room, (has20, (body20, (has21, (body21, (has22, (body22, (has23, (body23, _))))))))). (wroteNumber (sheets.sheetWrote (sheets.choice has20 (now body20) has21 (now body21) has22 (now body22) has23 (now body23)) (now room)), (sheets.sheetRoom (sheets.choice has20 (now body20) has21 (now body21) has22 (now body22) has23 (now body23)) (now room), tt)))
+
+-- `snatchblock_is_sheet`
+abbrev pub snatchblockIsSheetTerms : Terms snatchblock-is-sheet-owed.ended
+snatchblockIsSheetTerms = termsOf
+    (Bool ∷ [])
+    (λ κs r _. (r, tt))
+    (λ κs (bytes, _). (isSheet (now bytes), tt))
+
+-- `snatchblock_block`
+abbrev pub snatchblockBlockTerms : Terms snatchblock-block-owed.ended
+snatchblockBlockTerms = termsOf
+    (ℕ ∷ [])
+    (λ κs r _. (r, tt))
+    (λ κs (service, (factory, (tag, _))). (locatedNumber (locatedOf (now service) (now factory) tag), tt))
+
+-- `snatchblock_open_capture`
+abbrev pub snatchblockOpenCaptureTerms : Terms snatchblock-open-capture-owed.ended
+snatchblockOpenCaptureTerms = termsOf
+    (ℕ ∷ [])
+    (λ κs r _. (r, tt))
+    (λ κs (bytes, _). (openedNumber (openedOf (now bytes)), tt))
+
+-- `snatchblock_step_capture`
+abbrev pub snatchblockStepCaptureTerms : Terms snatchblock-step-capture-owed.ended
+snatchblockStepCaptureTerms = termsOf
+    (ℕ ∷ [])
+    (λ κs r _. (r, tt))
+    (λ κs (bytes, (row, (place, _))). (stepNumber place (stepAt (now bytes) row place), tt))
+
+-- `snatchblock_set_up`
+abbrev pub snatchblockSetUpTerms : Terms snatchblock-set-up-owed.ended
+snatchblockSetUpTerms = termsOf
+    (ℕ ∷ List ℕ ∷ [])
+    (λ κs r (area, (_, (_, (_, (_, (_, (_, (_, (_, (_, (_, (_, (_, (_, (_, (_, (_, _))))))))))))))))). (r, (now area, tt)))
+    (λ κs (area, (DesignCapacity, (full, (remaining, (DesignVoltage, (MaxError, (CycleCount, (ManufactureDate, (SerialNumber, (ChargingCurrent, (ChargingVoltage, (TemperatureLimit, (DischargeLimit, (voltage, (current, (temperature, (counter, _))))))))))))))))). (startNumber (now area) (setUpOf (setupWith DesignCapacity full remaining DesignVoltage MaxError CycleCount ManufactureDate SerialNumber ChargingCurrent ChargingVoltage TemperatureLimit DischargeLimit) (sampleWith voltage current temperature counter)), (startArea (now area) (setUpOf (setupWith DesignCapacity full remaining DesignVoltage MaxError CycleCount ManufactureDate SerialNumber ChargingCurrent ChargingVoltage TemperatureLimit DischargeLimit) (sampleWith voltage current temperature counter)), tt)))
+
+-- `snatchblock_sound`
+abbrev pub snatchblockSoundTerms : Terms snatchblock-sound-owed.ended
+snatchblockSoundTerms = termsOf
+    (Bool ∷ [])
+    (λ κs r _. (r, tt))
+    (λ κs (area, _). (soundIn (now area), tt))
+
+-- `snatchblock_sample`
+abbrev pub snatchblockSampleTerms : Terms snatchblock-sample-owed.ended
+snatchblockSampleTerms = termsOf
+    (ℕ ∷ List ℕ ∷ List ℕ ∷ [])
+    (λ κs r (area, (_, (_, (_, (_, (room, _)))))). (r, (now area, (now room, tt))))
+    (λ κs (area, (voltage, (current, (temperature, (counter, (room, _)))))). (sampleNumber (now area) (sampleWith voltage current temperature counter) (now room), (sampleArea (now area) (sampleWith voltage current temperature counter) (now room), (sampleRoom (now area) (sampleWith voltage current temperature counter) (now room), tt))))
+
+-- `snatchblock_transact`
+abbrev pub snatchblockTransactTerms : Terms snatchblock-transact-owed.ended
+snatchblockTransactTerms = termsOf
+    (ℕ ∷ List ℕ ∷ List ℕ ∷ [])
+    (λ κs r (area, (_, (_, (_, (_, (room, _)))))). (r, (now area, (now room, tt))))
+    (λ κs (area, (service, (factory, (read, (bytes, (room, _)))))). (transactNumber (now area) (now service) (now factory) read (now bytes) (now room), (transactArea (now area) (now service) (now factory) read (now bytes) (now room), (transactRoom (now area) (now service) (now factory) read (now bytes) (now room), tt))))

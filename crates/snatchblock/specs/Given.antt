@@ -1,0 +1,26 @@
+-- What C gives one by one, put together. Definitions: assumes nothing.
+use Prim.Native.Nat.{ℕ}
+use lib.IntN.{ℤ}
+use Rattle.pack.specs.declared.Sample.{Sample}
+use Rattle.pack.specs.declared.Setup.{Setup}
+
+abbrev pub sampleWith : ℕ → ℤ → ℕ → ℕ → Sample
+sampleWith voltage current temperature counter =
+    record { voltage = voltage; current = current; temperature = temperature; counter = counter }
+
+abbrev pub setupWith : ℕ → ℕ → ℕ → ℕ → ℕ → ℕ → ℕ → ℕ → ℕ → ℕ → ℕ → ℕ → Setup
+setupWith DesignCapacity full remaining DesignVoltage MaxError CycleCount ManufactureDate SerialNumber ChargingCurrent ChargingVoltage TemperatureLimit DischargeLimit =
+    record {
+      DesignCapacity = DesignCapacity;
+      full = full;
+      remaining = remaining;
+      DesignVoltage = DesignVoltage;
+      MaxError = MaxError;
+      CycleCount = CycleCount;
+      ManufactureDate = ManufactureDate;
+      SerialNumber = SerialNumber;
+      ChargingCurrent = ChargingCurrent;
+      ChargingVoltage = ChargingVoltage;
+      TemperatureLimit = TemperatureLimit;
+      DischargeLimit = DischargeLimit;
+    }

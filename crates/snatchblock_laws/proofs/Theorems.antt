@@ -1,0 +1,135 @@
+-- A refusal shows nothing above its answer.
+-- Assumes nothing.
+use mathlib.Core.Bool.{Bool, true, false, cond, not, _||_, true≢false}
+use mathlib.Core.List.{List}
+use mathlib.Core.Option.{Option, none, some}
+use mathlib.Core.Path.{refl}
+use Prim.Native.Nat.{ℕ}
+use native.Mathlib.Omega.{arith}
+use lib.Dec.{eqb, ltb}
+use lib.ListN.{length}
+use Rattle.area.specs.Area.{stateIn, isArea, noState}
+use Rattle.bus.specs.Transact.{packSide, asked, transactAnswer, transactOf}
+use Rattle.calls.specs.Calls.{sampleNumber, transactNumber}
+use Rattle.capture.specs.Capture.{isCapture}
+use Rattle.capture.specs.Walk.{openedOf, stepAt, answerOf}
+use Rattle.capture.specs.declared.Opened.{Opened}
+use Rattle.capture.specs.declared.Step.{Step}
+use Rattle.capture.specs.declared.Step.the-variants.{Next, End, NotCapture}
+use Rattle.clock.specs.Broadcast.{refusedSample, servedSample, sampleOf}
+use Rattle.clock.specs.declared.Sampled.{Sampled}
+use Rattle.commands.specs.Answers.{sideReply}
+use Rattle.frame.specs.declared.Request.{Request}
+use Rattle.frame.specs.declared.Request.the-variants.{Refused, Read, Write}
+use Rattle.names.specs.Names.{nameIn, plainWrote}
+use Rattle.key.specs.Key.{Parts, readKey, readOf}
+use Rattle.key_writer.specs.Writing.{refused, keyWrote}
+use Rattle.pack.specs.Sound.{soundOf}
+use Rattle.pack.specs.declared.Sample.{Sample}
+use Rattle.pack.specs.declared.State.{State}
+use Rattle.packed.proofs.Choice.{chosen}
+use Rattle.packed.specs.Packed.{packed, checkNumber, comparisonNumber, openedNumber, readNumber, locatedNumber, stepNumber}
+use Rattle.pec.specs.declared.Checked.{Checked}
+use Rattle.pec.specs.declared.Compared.{Compared}
+use Rattle.sheet.specs.Block.{Part, ofService, ofFactory, goodSheets, partOf, locatedBy, locatedOf}
+use Rattle.sheet.specs.declared.Located.{Located}
+use Rattle.sheet_writer.specs.Writing.{writable, sheetWrote}
+use Rattle.snatchblock_laws.specs.Bare.{Bare, WroteBare, CheckBare, ComparisonBare, KeyBare, NameBare, ReadBare, SheetBare, BlockBare, OpenedBare, StepBare, SampleBare, TransactBare}
+
+-- answer 0 is no refusal
+served-bare : {n : ℕ} → Bare 0 n
+served-bare h = absurd (true≢false h)
+
+pub check-bare : CheckBare
+check-bare xs = chosen (λ (c : Checked). Bare (c .answer) (checkNumber c)) (ltb (length xs) 2 || ltb 37 (length xs)) (λ _ _. omega arith) (λ _. served-bare)
+
+pub comparison-bare : ComparisonBare
+comparison-bare xs ys =
+    chosen (λ (c : Compared). Bare (c .answer) (comparisonNumber c)) (not (eqb (length xs) (length ys)) || ltb 37 (length xs)) (λ _ _. omega arith) (λ _. served-bare)
+
+pub key-bare : KeyBare
+unfolding keyWrote
+key-bare maker device date serial room = chosen WroteBare (refused maker device room) (λ _ _. omega arith) (λ _. served-bare)
+
+pub name-bare : NameBare
+name-bare part room = go (nameIn part)
+  where
+    go : (o : Option (List ℕ)) → WroteBare (plainWrote o room)
+    go none = λ _. refl
+    go (some name) = chosen WroteBare (ltb (length room) (length name)) (λ _ _. omega arith) (λ _. served-bare)
+
+pub read-bare : ReadBare
+read-bare key = go (readKey key)
+  where
+    go : (o : Option Parts) → Bare (readOf o .answer) (readNumber o)
+    go none h = refl
+    go (some p) h = absurd (true≢false h)
+
+pub sheet-bare : SheetBare
+unfolding sheetWrote
+sheet-bare es room = chosen WroteBare (writable es room) (λ _. served-bare) (λ _ _. omega arith)
+
+pub block-bare : BlockBare
+unfolding locatedOf
+block-bare service factory tag =
+    chosen (λ (l : Located). Bare (l .answer) (locatedNumber l)) (goodSheets service factory) (λ _. go (partOf service factory tag)) (λ _ _. omega arith)
+  where
+    go : (p : Part) → Bare (locatedBy p .answer) (locatedNumber (locatedBy p))
+    go (ofService a e) h = absurd (true≢false h)
+    go (ofFactory a e) h = absurd (true≢false h)
+
+pub opened-bare : OpenedBare
+unfolding openedOf
+opened-bare s = chosen (λ (o : Opened). Bare (o .answer) (openedNumber o)) (isCapture s) (λ _. served-bare) (λ _ _. omega arith)
+
+pub step-bare : StepBare
+step-bare s row place = go (stepAt s row place)
+  where
+    go : (t : Step) → Bare (answerOf t) (stepNumber place t)
+    go (Next mark after next) h = absurd (true≢false h)
+    go End h = absurd (true≢false h)
+    go NotCapture h = refl
+
+-- ---- the pack
+
+sampled-bare : (s : State) (x : Sample) (n : ℕ) → Bare (sampleOf s x n .answer) (packed (sampleOf s x n .answer) (sampleOf s x n .length))
+unfolding sampleOf
+sampled-bare s x n =
+    chosen P (not (soundOf s)) (λ _ _. omega arith) (λ _. chosen P (ltb n 16) {x = refusedSample 2 s} {y = servedSample s x} (λ _ _. omega arith) (λ _. served-bare))
+  where
+    P : Sampled → Type 0
+    P r = Bare (r .answer) (packed (r .answer) (r .length))
+
+pub sample-bare : SampleBare
+unfolding sampleNumber
+sample-bare area sample room = go (isArea area)
+  where
+    r : Sampled
+    r = sampleOf (stateIn area) sample (length room)
+
+    go : (b : Bool) → Bare (cond b (r .answer) noState) (cond b (packed (r .answer) (r .length)) noState)
+    go true = sampled-bare (stateIn area) sample (length room)
+    go false = λ _. refl
+
+module _ (s : State) (service factory bytes : List ℕ) where
+  reply-bare : (q : Request) (answer : ℕ) → Bare answer (packed answer (length (sideReply (packSide s service factory) bytes q answer)))
+  reply-bare (Refused n) answer h = omega arith
+  reply-bare (Read command) answer h = rw h (omega arith)
+  reply-bare (Write command word checked) answer h = omega arith
+
+pub transact-bare : TransactBare
+unfolding transactNumber transactOf
+transact-bare area service factory read bytes room = go (isArea area)
+  where
+    s : State
+    s = stateIn area
+
+    answer : ℕ
+    answer = transactAnswer s service factory read bytes (length room)
+
+    above : ℕ
+    above = length (sideReply (packSide s service factory) bytes (asked read bytes) answer)
+
+    go : (b : Bool) → Bare (cond b answer noState) (cond b (packed answer above) noState)
+    go true = reply-bare s service factory bytes (asked read bytes) answer
+    go false = λ _. refl

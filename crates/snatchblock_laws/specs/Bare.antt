@@ -1,0 +1,66 @@
+-- Beside the state, a refusal's other numbers are 0: what a C caller gets of a refusal is its answer and nothing above it.
+-- Assumes nothing: these are definitions.
+use mathlib.Core.Bool.{Bool, false, cond}
+use mathlib.Core.List.{List}
+use mathlib.Core.Path.{_≡_}
+use Prim.Native.Nat.{ℕ}
+use Rattle.area.specs.Area.{isArea, noState}
+use Rattle.calls.specs.Calls.{sampled, sampleNumber, transacted, transactNumber}
+use Rattle.capture.specs.Walk.{openedOf, stepAt, answerOf}
+use Rattle.commands.specs.Answers.{served}
+use Rattle.names.specs.Names.{nameIn, plainWrote}
+use Rattle.key.specs.Key.{readKey, readOf}
+use Rattle.key_writer.specs.Writing.{keyWrote}
+use Rattle.pack.specs.declared.Sample.{Sample}
+use Rattle.packed.specs.Packed.{checkNumber, comparisonNumber, wroteNumber, openedNumber, readNumber, locatedNumber, stepNumber}
+use Rattle.pec.specs.Messages.{exchangeCheck, bitComparison}
+use Rattle.rooms.specs.declared.Wrote.{Wrote}
+use Rattle.sheet.specs.Block.{locatedOf}
+use Rattle.sheet.specs.Sheet.{Entry}
+use Rattle.sheet_writer.specs.Writing.{sheetWrote}
+
+-- where the answer is a refusal, the number is the answer
+abbrev pub Bare : ℕ → ℕ → Type 0
+Bare answer number = served answer ≡ false → number ≡ answer
+
+abbrev pub WroteBare : Wrote → Type 0
+WroteBare w = Bare (w .answer) (wroteNumber w)
+
+-- ---- messages, keys, sheets, captures
+
+abbrev pub CheckBare : Type 0
+CheckBare = (xs : List ℕ) → Bare (exchangeCheck xs .answer) (checkNumber (exchangeCheck xs))
+
+abbrev pub ComparisonBare : Type 0
+ComparisonBare = (xs ys : List ℕ) → Bare (bitComparison xs ys .answer) (comparisonNumber (bitComparison xs ys))
+
+abbrev pub KeyBare : Type 0
+KeyBare = (maker device : List ℕ) (date serial : ℕ) (room : List ℕ) → WroteBare (keyWrote maker device date serial room)
+
+abbrev pub NameBare : Type 0
+NameBare = (part room : List ℕ) → WroteBare (plainWrote (nameIn part) room)
+
+abbrev pub ReadBare : Type 0
+ReadBare = (key : List ℕ) → Bare (readOf (readKey key) .answer) (readNumber (readKey key))
+
+abbrev pub SheetBare : Type 0
+SheetBare = (es : List Entry) (room : List ℕ) → WroteBare (sheetWrote es room)
+
+abbrev pub BlockBare : Type 0
+BlockBare = (service factory : List ℕ) (tag : ℕ) → Bare (locatedOf service factory tag .answer) (locatedNumber (locatedOf service factory tag))
+
+abbrev pub OpenedBare : Type 0
+OpenedBare = (s : List ℕ) → Bare (openedOf s .answer) (openedNumber (openedOf s))
+
+abbrev pub StepBare : Type 0
+StepBare = (s : List ℕ) (row place : ℕ) → Bare (answerOf (stepAt s row place)) (stepNumber place (stepAt s row place))
+
+-- ---- the pack (set-up's number is its answer)
+
+abbrev pub SampleBare : Type 0
+SampleBare = (area : List ℕ) (sample : Sample) (room : List ℕ) → Bare (cond (isArea area) (sampled area sample room .answer) noState) (sampleNumber area sample room)
+
+abbrev pub TransactBare : Type 0
+TransactBare =
+    (area service factory : List ℕ) (read : Bool) (bytes room : List ℕ)
+    → Bare (cond (isArea area) (transacted area service factory read bytes room .answer) noState) (transactNumber area service factory read bytes room)

@@ -1,0 +1,142 @@
+// The words of times and AtRateOK: pure functions of the pack. Only our own crates call these.
+ghost use mathlib.Core.Path.{_≡_};
+ghost use mathlib.Core.Bool.{true};
+ghost use Prim.Native.Nat.{_≤_};
+ghost use Rattle.times.specs.Times.{minutesIf, missing, atRateTimeToEmpty, atRateTimeToFull, presentDischarge, covers, atRateOK, rateOf, timeToEmptyAt, runTimeToEmpty, averageTimeToEmpty, averageTimeToFull};
+ghost use Rattle.pack.specs.Sound.{tankSound};
+ghost use Rattle.recent.specs.Recent.{recentSound};
+use pack::Pack;
+
+// Minutes if the rate flows the command's way.
+fn minutes_if(flows: bool, capacity: u16, rate: u32) -> u16
+    ensures { λ r. ⌜ r ≡ minutesIf flows capacity rate ⌝ }
+{
+    if flows {
+        return capacity::minutes(capacity, rate);
+    }
+    65535
+}
+
+// 06 AtRateTimeToEmpty.
+pub fn at_rate_time_to_empty(p: Pack) -> u16
+    requires { ⌜ tankSound (p .tank) ≡ true ⌝ }
+    ensures { λ r. ⌜ r ≡ atRateTimeToEmpty p ⌝ }
+{
+    let flows = words::falls(p.host.AtRate);
+    let remaining = registers::remaining_capacity(p);
+    let rate = words::size(p.host.AtRate);
+    minutes_if(flows, remaining, rate)
+}
+
+// Full minus remaining, of the words 10 and 0F.
+fn missing_capacity(p: Pack) -> u16
+    requires { ⌜ tankSound (p .tank) ≡ true ⌝ }
+    ensures { λ r. ⌜ r ≡ missing p ⌝ }
+{
+    let full = registers::full_charge_capacity(p);
+    let remaining = registers::remaining_capacity(p);
+    full - remaining
+}
+
+// 05 AtRateTimeToFull.
+pub fn at_rate_time_to_full(p: Pack) -> u16
+    requires { ⌜ tankSound (p .tank) ≡ true ⌝ }
+    ensures { λ r. ⌜ r ≡ atRateTimeToFull p ⌝ }
+{
+    if p.host.CapacityMode {
+        return 65535;
+    }
+    let flows = words::rises(p.host.AtRate);
+    let left = missing_capacity(p);
+    let rate = words::size(p.host.AtRate);
+    minutes_if(flows, left, rate)
+}
+
+// The present discharge in mA.
+fn present_discharge(p: Pack) -> u32
+    ensures is { λ r. ⌜ r ≡ presentDischarge p ⌝ }
+    ensures small { λ r. ⌜ r ≤ 32768 ⌝ }
+{
+    if words::falls(p.latest.current) {
+        return words::size(p.latest.current);
+    }
+    0
+}
+
+// Whether charge covers 10 s of the rate beside the present discharge.
+fn covers_it(p: Pack) -> bool
+    requires { ⌜ tankSound (p .tank) ≡ true ⌝ }
+    ensures { λ r. ⌜ r ≡ covers p ⌝ }
+{
+    let rate = words::size(p.host.AtRate) as u64;
+    let drawn = present_discharge(p) as u64;
+    if p.host.CapacityMode {
+        let used = capacity::product(drawn, p.settings.DesignVoltage);
+        let held = capacity::product(p.tank.charge, p.settings.DesignVoltage);
+        return 10000 * (10000 * rate + used) <= held;
+    }
+    10000 * (rate + drawn) <= p.tank.charge
+}
+
+// 07 AtRateOK.
+pub fn at_rate_ok(p: Pack) -> u16
+    requires { ⌜ tankSound (p .tank) ≡ true ⌝ }
+    ensures { λ r. ⌜ r ≡ atRateOK p ⌝ }
+{
+    if words::falls(p.host.AtRate) {
+        return registers::flag(covers_it(p), 1);
+    }
+    1
+}
+
+// A current as a rate: mA, in power mode 10 mW.
+fn rate_of(p: Pack, current: u16) -> u32
+    ensures { λ r. ⌜ r ≡ rateOf p current ⌝ }
+{
+    let size = words::size(current);
+    if p.host.CapacityMode {
+        return capacity::power(size as u64, p.latest.voltage) as u32;
+    }
+    size
+}
+
+// Minutes until empty at a current.
+fn time_to_empty_at(p: Pack, current: u16) -> u16
+    requires { ⌜ tankSound (p .tank) ≡ true ⌝ }
+    ensures { λ r. ⌜ r ≡ timeToEmptyAt p current ⌝ }
+{
+    let flows = words::falls(current);
+    let remaining = registers::remaining_capacity(p);
+    let rate = rate_of(p, current);
+    minutes_if(flows, remaining, rate)
+}
+
+// 11 RunTimeToEmpty.
+pub fn run_time_to_empty(p: Pack) -> u16
+    requires { ⌜ tankSound (p .tank) ≡ true ⌝ }
+    ensures { λ r. ⌜ r ≡ runTimeToEmpty p ⌝ }
+{
+    time_to_empty_at(p, p.latest.current)
+}
+
+// 12 AverageTimeToEmpty.
+pub fn average_time_to_empty(p: Pack) -> u16
+    requires { ⌜ (tankSound (p .tank) ≡ true) × (recentSound (p .recent) ≡ true) ⌝ }
+    ensures { λ r. ⌜ r ≡ averageTimeToEmpty p ⌝ }
+{
+    let recent = p.recent;
+    time_to_empty_at(p, recent::average(recent))
+}
+
+// 13 AverageTimeToFull.
+pub fn average_time_to_full(p: Pack) -> u16
+    requires { ⌜ (tankSound (p .tank) ≡ true) × (recentSound (p .recent) ≡ true) ⌝ }
+    ensures { λ r. ⌜ r ≡ averageTimeToFull p ⌝ }
+{
+    let recent = p.recent;
+    let current = recent::average(recent);
+    let flows = words::rises(current);
+    let left = missing_capacity(p);
+    let rate = rate_of(p, current);
+    minutes_if(flows, left, rate)
+}
