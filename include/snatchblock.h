@@ -7,8 +7,8 @@
  * for reading may overlap each other. A bool is 0 or 1.
  *
  * Answers. A result of several numbers is one unsigned integer with the answer number in bits 0 to 7; the rest stands
- * above it, in the bits named below, and is 0 where the call is refused, unless said otherwise. A refused call writes
- * no byte of a room, and of the area only what snatchblock_transact says.
+ * above it, in the bits named below, and is 0 where the call is refused. A refused call writes no byte of a room, and
+ * of the area only what snatchblock_transact says.
  *
  * The area. The pack's state lies in SNATCHBLOCK_AREA bytes: the error code, then each part at its place (named below),
  * each number low byte first, a flag 1 or 0; a firmware may keep them in RAM or in EEPROM:

@@ -1,8 +1,9 @@
 /* A second, separately written form of the battery pack's rules, in plain C11.
  *
- * It is written from document 01 and the Smart Battery Data Specification 1.1
- * alone, to be run beside the proved library and compared with it. "Rule:" in
- * a comment names the section of document 01 that a function carries out.
+ * It is written from document 01 and the Smart Battery Data Specification 1.1,
+ * to be run beside the proved library and compared with it; README.md says which
+ * few points it shares with that library. "Rule:" in a comment names the section
+ * of document 01 that a function carries out.
  *
  * A pointer may be null where the length given with it is 0. Rooms are lent
  * memory: a refused call writes no byte of them, a served one only the front.
@@ -245,8 +246,8 @@ int sb2_key_write(struct sb2_bytes maker, struct sb2_bytes device, uint16_t date
 /* Reads a key: answers 0 with its parts, or 13 with none (rule: Key). */
 int sb2_key_read(struct sb2_bytes key, struct sb2_key *parts);
 
-/* Writes the plain bytes of an escaped name of any length: answers 0, 13 for bytes that are none, or 12 for a
- * room that is shorter than the plain name (rule: Key). */
+/* Writes the plain bytes of an escaped name of up to 64 bytes: answers 0, 13 for bytes that are none, or 12 for a
+ * room that is shorter than the plain name (rule: Key; a decision shared with the library). */
 int sb2_key_unescape(struct sb2_bytes name, uint8_t *room, size_t room_length, size_t *length);
 
 /* ---- pack sheets */

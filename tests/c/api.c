@@ -471,14 +471,36 @@ static void unescaping(void)
     CHECK(room_is(NULL, 0), true);
 }
 
+/* A key shows parts of up to 64 bytes: those are unescaped into room that just holds the name, longer ones are 13. */
+static void unescaping_64(void)
+{
+    uint8_t letters[65], marks[65], plain[64];
+    memset(letters, 'm', sizeof letters);
+    memset(plain, 0x2F, sizeof plain);
+    for (size_t i = 0; i < sizeof marks; i++)
+        marks[i] = i % 2 == 0 ? 0x5C : 0x2F;
+    marks[64] = 'm';
+    for (size_t length = 0; length <= ROOM_MOST; length++) {
+        new_room();
+        CHECK(snatchblock_unescape(letters, 65, room, length), 13);
+        CHECK(snatchblock_unescape(marks, 65, room, length), 13);
+        CHECK(snatchblock_unescape(marks, 63, room, length), 13); /* ends in an escape mark */
+        CHECK(room_is(NULL, 0), true);
+        CHECK(snatchblock_unescape(letters, 64, room, length), length < 64 ? 12 : PACKED(0, 64));
+        CHECK(room_is(letters, length < 64 ? 0 : 64), true);
+        new_room();
+        CHECK(snatchblock_unescape(marks, 64, room, length), length < 32 ? 12 : PACKED(0, 32));
+        CHECK(room_is(plain, length < 32 ? 0 : 32), true);
+    }
+}
+
 /* Bytes of every length get an answer: megabytes without a slash need no deep stack. */
 static void long_bytes_of(uint8_t byte, size_t length)
 {
     static uint8_t bytes[1 << 24];
     memset(bytes, byte, length);
     new_room();
-    uint32_t plain = snatchblock_unescape(bytes, length, room, ROOM_MOST);
-    CHECK(plain == 12 || plain == 13, true);
+    CHECK(snatchblock_unescape(bytes, length, room, ROOM_MOST), 13);
     CHECK(snatchblock_read_key(bytes, length), 13);
     CHECK(snatchblock_is_sheet(bytes, length), false);
     CHECK(snatchblock_open_capture(bytes, length), 14);
@@ -614,6 +636,7 @@ int main(void)
     key_writing();
     key_reading();
     unescaping();
+    unescaping_64();
     long_bytes();
     sheet_writing();
     blocks();

@@ -27,12 +27,12 @@ for tool in generate tally; do
 done
 "$out/bin/generate" "$seed" "$rows" "$work" || exit 2
 
-# Runs one player on one capture; a program that can't be run or was stopped ends the comparison.
+# Runs one player on one capture; any status but 0 ends the comparison, of a bad capture too.
 play() { # COMMAND CAPTURE LINES
     # shellcheck disable=SC2086
     $1 <"$2" >"$3"
     status=$?
-    if [ "$status" -ge 125 ]; then
+    if [ "$status" -ne 0 ]; then
         echo "seed $seed, $2: '$1' ended with status $status"
         exit 1
     fi

@@ -1,8 +1,9 @@
 /* Compares the proved static library with the second program on seeded random work:
  *   compare [SEED [CALLS]]
  * Both get the same bytes, each in memory of its own. Compared are the packed results, and the areas and
- * rooms whole, with guard bytes on both sides. Bytes that are lent for reading end at a page that can't be
- * read. Status 0 only if nothing differs and, from LEAST calls on, every class came up. */
+ * rooms whole, with guard bytes on both sides; then all that document 01 lets stay, guard bytes, the room of a
+ * refused call, a room behind what was written, with what stood there before. Bytes that are lent for reading
+ * end at a page that can't be read. Status 0 only if nothing differs and, from LEAST calls on, every class came up. */
 #define _DEFAULT_SOURCE
 #include "snatchblock.h"
 #include "../../second/snatchblock2.h"
@@ -14,7 +15,7 @@
 #include <sys/mman.h>
 #include <unistd.h>
 
-enum { LEAST = 1000000, USUAL = 3000000, GUARD = 16, AREA_MOST = 372, ROOM_MOST = 200, PAGE = 4096, LENT_PAGES = 4 };
+enum { LEAST = 1000000, USUAL = 2000000, GUARD = 16, AREA_MOST = 372, ROOM_MOST = 200, PAGE = 4096, LENT_PAGES = 4 };
 
 static uint64_t seed, calls, wanted_calls;
 
@@ -134,10 +135,13 @@ static void lend_area(const uint8_t *content, size_t length)
 
 /* ---- the call under way, for a report */
 
+enum area_use { NO_AREA, READS_AREA, WRITES_AREA };
+
 static struct {
     const char *entry;
     size_t slices;
-    bool with_area, with_room;
+    enum area_use area;
+    bool with_room;
     size_t numbers;
     uint64_t number[20];
 } call;
@@ -145,13 +149,13 @@ static struct {
 static _Noreturn void end_run(void);
 
 /* Begins a call, or ends the run after the last of the calls wanted. */
-static void begin(const char *entry, size_t slices, bool with_area, bool with_room)
+static void begin(const char *entry, size_t slices, enum area_use area_use, bool with_room)
 {
     if (calls == wanted_calls)
         end_run();
     call.entry = entry;
     call.slices = slices;
-    call.with_area = with_area;
+    call.area = area_use;
     call.with_room = with_room;
     call.numbers = 0;
     calls++;
@@ -180,12 +184,13 @@ static void report(void)
     printf("\n");
     for (size_t i = 0; i < call.slices; i++)
         show("slice", lent[i].copy, lent[i].bytes.length);
-    if (call.with_area) {
+    if (call.area) {
         show("area before", area.before + (area.s - area.second), area.length);
         show("area, proved", area.p, area.length);
         show("area, second", area.s, area.length);
     }
     if (call.with_room) {
+        show("room before", room.before + (room.s - room.second), room.length);
         show("room, proved", room.p, room.length);
         show("room, second", room.s, room.length);
     }
@@ -199,16 +204,45 @@ static void stopped(int number)
     _exit(1);
 }
 
+/* Whether all but the first bytes of what is lent, guards too, are as they were. */
+static bool stays_behind(const struct both *b, size_t first)
+{
+    size_t from = (size_t)(b->p - b->proved);
+    size_t to = from + (first < b->length ? first : b->length);
+    return memcmp(b->proved, b->before, from) == 0 && memcmp(b->proved + to, b->before + to, sizeof b->before - to) == 0;
+}
+
+/* The bytes of the area that document 01 lets an answer change: of a refusal past 3 the error code alone. */
+static size_t area_may_change(unsigned answer)
+{
+    if (call.area != WRITES_AREA)
+        return 0;
+    if (answer == SB2_SERVED || answer == SB2_OVERFLOW)
+        return area.length;
+    return answer > SB2_NOT_FOR_PACK && answer <= SB2_BAD_SHEET;
+}
+
+/* Every entry with a room answers in the low byte and has the bytes written above it, none where it refused. */
+static size_t room_may_change(uint64_t result)
+{
+    unsigned answer = result & 0xFF;
+    return answer == SB2_SERVED || answer == SB2_OVERFLOW ? (size_t)(result >> 8) : 0;
+}
+
 /* Compares all that a call gives and leaves. */
 static void compare(uint64_t proved, uint64_t second)
 {
     const char *what = NULL;
     if (proved != second)
         what = "result";
-    else if (call.with_area && memcmp(area.proved, area.second, sizeof area.second) != 0)
+    else if (call.area && memcmp(area.proved, area.second, sizeof area.second) != 0)
         what = "area";
     else if (call.with_room && memcmp(room.proved, room.second, sizeof room.second) != 0)
         what = "room";
+    else if (call.area && !stays_behind(&area, area_may_change(proved & 0xFF)))
+        what = "area where it stays";
+    else if (call.with_room && !stays_behind(&room, room_may_change(proved)))
+        what = "room where it stays";
     for (size_t i = 0; i < call.slices; i++)
         if (memcmp(lent[i].bytes.at, lent[i].copy, lent[i].bytes.length) != 0)
             what = "bytes lent for reading";
@@ -249,11 +283,13 @@ static const struct {
 };
 static uint64_t came[ENTRIES][ANSWERS];
 
-/* Classes beside the answers. */
+/* Classes beside the answers. Those of a mode stand twice, in mAh and in power mode. */
 enum other {
-    READ_SERVED, WRITE_SERVED = READ_SERVED + 64, MESSAGES_0 = WRITE_SERVED + 5, MESSAGES_1, MESSAGES_2, MESSAGES_3,
-    MESSAGES_4, ALARM_BIT, COUNTER_WRAPPED = ALARM_BIT + 16, HOLD_RAN_OUT, EXCHANGE_RIGHT, EXCHANGE_WRONG,
-    BLOCK_SERVICE, BLOCK_FACTORY, BLOCK_NEITHER, STEP_ROW, STEP_END, OTHERS
+    READ_SERVED, WRITE_SERVED = READ_SERVED + 2 * 64, TIME_IN_MAH = WRITE_SERVED + 2 * 5, TIME_IN_POWER = TIME_IN_MAH + 15,
+    AT_RATE_OK = TIME_IN_POWER + 12, STATUS_SET = AT_RATE_OK + 4, STATUS_CLEAR = STATUS_SET + 16,
+    BIT_4_WAS_CLEAR = STATUS_CLEAR + 16, BIT_4_WAS_SET = BIT_4_WAS_CLEAR + 3, MESSAGES_0 = BIT_4_WAS_SET + 3, MESSAGES_1,
+    MESSAGES_2, MESSAGES_3, MESSAGES_4, ALARM_BIT, COUNTER_WRAPPED = ALARM_BIT + 16, HOLD_RAN_OUT, EXCHANGE_RIGHT,
+    EXCHANGE_WRONG, BLOCK_SERVICE, BLOCK_FACTORY, BLOCK_NEITHER, STEP_ROW, STEP_END, OTHERS
 };
 static uint64_t other[OTHERS];
 
@@ -315,7 +351,7 @@ static void play_set_up(bool likely)
     size_t length = likely ? SNATCHBLOCK_AREA : area_size();
     fill(state_area, length);
     lend_area(state_area, length);
-    begin("set_up", 0, true, false);
+    begin("set_up", 0, WRITES_AREA, false);
     note(in.design_capacity), note(in.full_capacity), note(in.remaining_capacity), note(in.design_voltage);
     note(in.max_error), note(in.cycle_count), note(in.manufacture_date), note(in.serial_number);
     note(in.charging_current), note(in.charging_voltage), note(in.temperature_limit), note(in.discharge_limit);
@@ -335,7 +371,7 @@ static void play_sound(void)
 {
     size_t length = area_size();
     lend_area(state_area, length);
-    begin("sound", 0, true, false);
+    begin("sound", 0, READS_AREA, false);
     bool proved = snatchblock_sound(area.p, length);
     bool second = sb2_area_sound(bytes_of(area.s, length));
     compare(proved, second);
@@ -352,6 +388,16 @@ static uint32_t some_elapsed(void)
     case 3: return below(20) * 1000;
     default: return 1000;
     }
+}
+
+/* What bit 4 was before a served sample, and which of its three rules the charge after it falls under. */
+static void note_bit_4(bool was_set)
+{
+    struct sb2_state state;
+    (void)sb2_area_load(bytes_of(area.s, area.length), &state);
+    uint64_t full = (uint64_t)state.tank.full_capacity * SB2_MS_PER_HOUR;
+    unsigned rule = state.tank.charge == 0 ? 0 : 100 * state.tank.charge / full < 20 ? 1 : 2;
+    other[(was_set ? BIT_4_WAS_SET : BIT_4_WAS_CLEAR) + rule]++;
 }
 
 /* Which messages a served sample sent. */
@@ -385,7 +431,7 @@ static void play_sample(bool whole)
     size_t length = whole ? SNATCHBLOCK_AREA : area_size();
     lend_area(state_area, length);
     lend_room(room_size(SB2_BROADCAST_ROOM));
-    begin("sample", 0, true, true);
+    begin("sample", 0, WRITES_AREA, true);
     note(sample.voltage), note((uint16_t)sample.current), note(sample.temperature), note(sample.counter);
     size_t sent;
     uint32_t proved = snatchblock_sample(area.p, length, sample.voltage, sample.current, sample.temperature,
@@ -393,8 +439,10 @@ static void play_sample(bool whole)
     int answer = sb2_area_take_sample(area.s, length, &sample, room.s, room.length, &sent);
     compare(proved, (uint32_t)answer | (uint32_t)sent << 8);
     came_up(SAMPLE, (uint32_t)answer);
-    if (answer == SB2_SERVED)
+    if (answer == SB2_SERVED) {
         note_messages(sent, before, sample.counter, held);
+        note_bit_4(state_area[SNATCHBLOCK_TANK + 12] == 1);
+    }
     keep_area();
 }
 
@@ -446,6 +494,20 @@ static size_t some_message(uint8_t at[64], bool *read)
     return length;
 }
 
+/* The word of a served read: the times at their caps and below, AtRateOK, the bits of the status. */
+static void note_word(uint8_t command, bool power, uint16_t word)
+{
+    static const uint8_t times[] = {0x06, 0x11, 0x12, 0x13, 0x05};
+    unsigned which = word == 65534 ? 0 : word == 65535 ? 1 : 2;
+    for (unsigned i = 0; i < sizeof times; i++)
+        if (command == times[i] && !(power && command == 0x05)) /* 05 is 65,535 in power mode, answer 10 */
+            other[(power ? TIME_IN_POWER : TIME_IN_MAH) + 3 * i + which]++;
+    if (command == 0x07)
+        other[AT_RATE_OK + 2 * power + (word != 0)]++;
+    for (unsigned bit = 0; command == 0x16 && bit < 16; bit++)
+        other[(word >> bit & 1 ? STATUS_SET : STATUS_CLEAR) + bit]++;
+}
+
 static void play_message(const uint8_t *message, size_t message_length, bool read, size_t length)
 {
     lend_area(state_area, length);
@@ -453,7 +515,7 @@ static void play_message(const uint8_t *message, size_t message_length, bool rea
     struct sb2_bytes s = lend(0, service, service_length);
     struct sb2_bytes f = lend(1, factory, factory_length);
     struct sb2_bytes m = lend(2, message, message_length);
-    begin("transact (service, factory, bytes)", 3, true, true);
+    begin("transact (service, factory, bytes)", 3, WRITES_AREA, true);
     note(read);
     size_t sent;
     uint32_t proved = snatchblock_transact(area.p, length, s.at, s.length, f.at, f.length, read, m.at, m.length, room.p,
@@ -461,8 +523,12 @@ static void play_message(const uint8_t *message, size_t message_length, bool rea
     int answer = sb2_area_transact(area.s, length, read, m, s, f, room.s, room.length, &sent);
     compare(proved, (uint32_t)answer | (uint32_t)sent << 8);
     came_up(TRANSACT, (uint32_t)answer);
-    if (answer == SB2_SERVED)
-        other[(read ? READ_SERVED : WRITE_SERVED) + message[1]]++;
+    if (answer == SB2_SERVED || answer == SB2_OVERFLOW) {
+        bool power = state_area[SNATCHBLOCK_HOST + 10] == 1;
+        other[read ? READ_SERVED + 64 * power + message[1] : WRITE_SERVED + 5 * power + message[1]]++;
+        if (read && message[1] < 0x20)
+            note_word(message[1], power, (uint16_t)(room.s[0] | room.s[1] << 8));
+    }
     keep_area();
 }
 
@@ -483,7 +549,7 @@ static size_t play_write_sheet(bool likely)
 {
     struct sb2_body bodies[4];
     uint8_t body[80];
-    begin("write_sheet (four bodies)", 4, false, true);
+    begin("write_sheet (four bodies)", 4, NO_AREA, true);
     for (int i = 0; i < 4; i++) {
         bodies[i].given = !one_in(3);
         size_t length = likely || !one_in(12) ? below(33) : 30 + below(40);
@@ -546,7 +612,7 @@ static void play_sheets(void)
     }
     for (int i = 0; i < 2; i++) {
         struct sb2_bytes sheet = lend(0, i ? factory : service, i ? factory_length : service_length);
-        begin("is_sheet", 1, false, false);
+        begin("is_sheet", 1, NO_AREA, false);
         bool second = sb2_sheet_good(sheet);
         compare(snatchblock_is_sheet(sheet.at, sheet.length), second);
         came_up(IS_SHEET, second);
@@ -555,7 +621,7 @@ static void play_sheets(void)
         struct sb2_bytes s = lend(0, service, service_length);
         struct sb2_bytes f = lend(1, factory, factory_length);
         uint8_t tag = (uint8_t)(i < 4 ? 0x20 + i : (int)below(256));
-        begin("block (service, factory)", 2, false, false);
+        begin("block (service, factory)", 2, NO_AREA, false);
         note(tag);
         uint64_t proved = snatchblock_block(s.at, s.length, f.at, f.length, tag);
         struct sb2_block block;
@@ -637,6 +703,21 @@ static void play_at_rate_ok(void)
     play_message(message, 3, true, SNATCHBLOCK_AREA);
 }
 
+/* Reads the times at the slowest rates, AtRate, current and mean 1 or -1. */
+static void play_times(void)
+{
+    static const uint8_t times[] = {0x05, 0x06, 0x11, 0x12, 0x13};
+    uint16_t slow = one_in(2) ? 1 : 0xFFFF;
+    put(SNATCHBLOCK_HOST + 6, 2, slow);
+    put(SNATCHBLOCK_HOST + 10, 1, below(2));
+    put(SNATCHBLOCK_LATEST + 2, 2, slow);
+    put(SNATCHBLOCK_RECENT, 2, slow);
+    for (size_t i = 0; i < sizeof times; i++) {
+        const uint8_t ask[3] = {0x16, times[i], 0x17};
+        play_message(ask, 3, true, SNATCHBLOCK_AREA);
+    }
+}
+
 /* Reads the status with RemainingTimeAlarm at the word 12, or one off it. */
 static void play_time_alarm(void)
 {
@@ -676,6 +757,8 @@ static void play_areas(void)
         play_time_alarm();
         play_at_rate_ok();
     }
+    play_set_up(true);
+    play_times();
     for (int i = 0; i < 8; i++)
         play_set_up(false);
 }
@@ -688,7 +771,7 @@ static void play_long_pec(void)
     static uint8_t bytes[3000];
     fill(bytes, sizeof bytes);
     struct sb2_bytes message = lend(0, bytes, below(sizeof bytes + 1));
-    begin("pec", 1, false, false);
+    begin("pec", 1, NO_AREA, false);
     compare(snatchblock_pec(message.at, message.length), sb2_pec(message));
     came_up(PEC, 0);
 }
@@ -710,18 +793,18 @@ static void play_checks(void)
         a[a_length - 1] = sb2_pec(bytes_of(a, a_length - 1));
     struct sb2_bytes one = lend(0, a, a_length);
     struct sb2_bytes two = lend(1, b, b_length);
-    begin("pec", 1, false, false);
+    begin("pec", 1, NO_AREA, false);
     compare(snatchblock_pec(one.at, one.length), sb2_pec(one));
     came_up(PEC, 0);
     bool accepted = false;
-    begin("exchange_check", 1, false, false);
+    begin("exchange_check", 1, NO_AREA, false);
     int answer = sb2_check_exchange(one, &accepted);
     compare(snatchblock_exchange_check(one.at, one.length), (uint32_t)answer | (uint32_t)accepted << 8);
     came_up(EXCHANGE, (uint32_t)answer);
     if (answer == SB2_SERVED)
         other[accepted ? EXCHANGE_RIGHT : EXCHANGE_WRONG]++;
     uint32_t bits = 0;
-    begin("bit_comparison", 2, false, false);
+    begin("bit_comparison", 2, NO_AREA, false);
     answer = sb2_compare(one, two, &bits);
     compare(snatchblock_bit_comparison(one.at, one.length, two.at, two.length), (uint32_t)answer | bits << 8);
     came_up(BITS, (uint32_t)answer);
@@ -744,7 +827,7 @@ static void play_read_key(const uint8_t *at, size_t length)
 {
     struct sb2_bytes key = lend(0, at, length);
     struct sb2_key parts;
-    begin("read_key", 1, false, false);
+    begin("read_key", 1, NO_AREA, false);
     uint64_t proved = snatchblock_read_key(key.at, key.length);
     int answer = sb2_key_read(key, &parts);
     compare(proved, (uint64_t)answer | (uint64_t)parts.maker.length << 8 | (uint64_t)parts.device.length << 16 |
@@ -757,7 +840,7 @@ static void play_unescape(const uint8_t *at, size_t length)
     struct sb2_bytes part = lend(0, at, length);
     lend_room(one_in(2) ? 64 : below(40));
     size_t plain;
-    begin("unescape", 1, false, true);
+    begin("unescape", 1, NO_AREA, true);
     uint32_t proved = snatchblock_unescape(part.at, part.length, room.p, room.length);
     int answer = sb2_key_unescape(part, room.s, room.length, &plain);
     compare(proved, (uint32_t)answer | (uint32_t)plain << 8);
@@ -803,7 +886,7 @@ static void play_keys(void)
     uint16_t date = some_word(), serial = some_word();
     lend_room(room_size(SB2_KEY_ROOM));
     size_t length;
-    begin("write_key (maker, device)", 2, false, true);
+    begin("write_key (maker, device)", 2, NO_AREA, true);
     note(date), note(serial);
     uint32_t proved = snatchblock_write_key(m.at, m.length, d.at, d.length, date, serial, room.p, room.length);
     int answer = sb2_key_write(m, d, date, serial, room.s, room.length, &length);
@@ -863,7 +946,7 @@ static uint64_t play_step(struct sb2_bytes capture, size_t row, size_t place)
 {
     struct sb2_walk walk = {capture, row, place};
     struct sb2_row found;
-    begin("step_capture", 1, false, false);
+    begin("step_capture", 1, NO_AREA, false);
     note(row), note(place);
     uint64_t second = (uint64_t)sb2_capture_test(capture);
     if (second == SB2_SERVED && sb2_walk_next(&walk, &found))
@@ -881,7 +964,7 @@ static void play_captures(void)
     struct sb2_walk walk;
     size_t length = some_capture(bytes);
     struct sb2_bytes capture = lend(0, bytes, length);
-    begin("open_capture", 1, false, false);
+    begin("open_capture", 1, NO_AREA, false);
     uint32_t second = (uint32_t)sb2_walk_begin(capture, &walk);
     if (second == SB2_SERVED)
         second |= (uint32_t)capture.at[0] << 8 | (uint32_t)walk.place << 16;
@@ -921,11 +1004,22 @@ static bool count_other(const char *name, size_t first, size_t last)
         if (other[i] < fewest)
             fewest = other[i];
     }
-    printf("  %-46s %9llu", name, (unsigned long long)all);
+    printf("  %-50s %9llu", name, (unsigned long long)all);
     if (first != last)
         printf(", of the rarest %llu", (unsigned long long)fewest);
     printf("%s\n", fewest == 0 ? "  NEVER" : "");
     return fewest > 0;
+}
+
+/* Bits of the status that document 01 never sets, and the one that it never clears. */
+static bool status_as_said(void)
+{
+    bool as_said = other[STATUS_SET + 15] + other[STATUS_SET + 13] + other[STATUS_SET + 10] + other[STATUS_SET + 3] +
+                       other[STATUS_CLEAR + 7] ==
+                   0;
+    if (!as_said)
+        printf("  status bit 15, 13, 10 or 3 set, or 7 clear: WRONG\n");
+    return as_said;
 }
 
 /* Prints each class; false if one never came up. */
@@ -949,8 +1043,22 @@ static bool tally(void)
         size_t first, last;
     } lines[] = {
         {"reads served, 00 to 1C", READ_SERVED, READ_SERVED + 0x1C},
+        {"in power mode", READ_SERVED + 64, READ_SERVED + 64 + 0x1C},
         {"block reads served, 20 to 23", READ_SERVED + 0x20, READ_SERVED + 0x23},
+        {"in power mode", READ_SERVED + 64 + 0x20, READ_SERVED + 64 + 0x23},
         {"writes served, 00 to 04", WRITE_SERVED, WRITE_SERVED + 4},
+        {"in power mode", WRITE_SERVED + 5, WRITE_SERVED + 9},
+        {"06, 11, 12, 13, 05: 65,534, 65,535, another", TIME_IN_MAH, TIME_IN_MAH + 14},
+        {"06, 11, 12, 13 in power mode: the same", TIME_IN_POWER, TIME_IN_POWER + 11},
+        {"07: 0, 1, and in power mode", AT_RATE_OK, AT_RATE_OK + 3},
+        {"status bit 14 set", STATUS_SET + 14, STATUS_SET + 14},
+        {"12 and 11 set", STATUS_SET + 11, STATUS_SET + 12},
+        {"9 to 4 set", STATUS_SET + 4, STATUS_SET + 9},
+        {"2 to 0 set", STATUS_SET, STATUS_SET + 2},
+        {"15 to 8 clear", STATUS_CLEAR + 8, STATUS_CLEAR + 15},
+        {"6 to 0 clear", STATUS_CLEAR, STATUS_CLEAR + 6},
+        {"bit 4 clear: a sample to charge 0, to under 20 %, else", BIT_4_WAS_CLEAR, BIT_4_WAS_CLEAR + 2},
+        {"bit 4 set: the same", BIT_4_WAS_SET, BIT_4_WAS_SET + 2},
         {"samples with no message", MESSAGES_0, MESSAGES_0},
         {"with one", MESSAGES_1, MESSAGES_1},
         {"with two", MESSAGES_2, MESSAGES_2},
@@ -967,7 +1075,7 @@ static bool tally(void)
     };
     for (size_t i = 0; i < sizeof lines / sizeof *lines; i++)
         all = count_other(lines[i].name, lines[i].first, lines[i].last) && all;
-    return all;
+    return status_as_said() && all;
 }
 
 static void end_run(void)
@@ -977,7 +1085,7 @@ static void end_run(void)
            all ? ", every class came up" : "");
     if (all || wanted_calls < LEAST)
         exit(0);
-    printf("compare: a class never came up\n");
+    printf("compare: a class never came up, or one that can't be\n");
     exit(1);
 }
 
@@ -988,6 +1096,8 @@ int main(int count, char **given)
     random_state = seed * 0x9E3779B97F4A7C15u + 0x1234567u;
     if (random_state == 0)
         random_state = 1;
+    printf("compare: seed %llu, %llu calls\n", (unsigned long long)seed, (unsigned long long)wanted_calls);
+    fflush(stdout);
     make_lent();
     signal(SIGSEGV, stopped);
     signal(SIGBUS, stopped);

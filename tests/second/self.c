@@ -874,6 +874,11 @@ static void keys(void)
     CHECK(sb2_key_unescape(bytes(room, 64), name, 32, &length), 0);
     CHECK(length, 32);
     CHECK(memcmp(name, names, 32), 0);
+    memset(other, 'm', 65);
+    CHECK(sb2_key_unescape(bytes(other, 64), room, 64, &length), 0);
+    CHECK(length, 64);
+    CHECK(sb2_key_unescape(bytes(other, 64), room, 63, &length), 12);
+    CHECK(sb2_key_unescape(bytes(other, 65), room, sizeof room, &length), 13);
     CHECK(sb2_key_write(bytes(names, 32), bytes(names, 32), 0, 0, room, 138, &length), 12);
     CHECK(sb2_key_write(bytes(names, 33), nothing, 0, 0, room, 139, &length), 12);
     CHECK(sb2_key_write(nothing, bytes(names, 33), 0, 0, room, 139, &length), 12);
