@@ -35,11 +35,12 @@ use Rattle.capture.specs.declared.Opened.{Opened}
 use Rattle.pec.specs.declared.Checked.{Checked}
 use Rattle.pec.specs.declared.Compared.{Compared}
 use Rattle.pack.specs.Sound.{soundOf}
-use Rattle.sheet.specs.Block.{blockAnswer, goodSheets}
+use Rattle.sheet.specs.Block.{Part, ofService, ofFactory, blockAnswer, goodSheets, partOf, locatedBy, locatedOf}
+use Rattle.sheet.specs.declared.Located.{Located}
 use Rattle.sheet_writer.specs.Writing.{sheetWrote, writable, short}
 use Rattle.answers.specs.Conditions.{commandOf, isReserved, isOptional, isReadOnly, isBlock, transactConditions, isNone, overflows}
 use Rattle.answers.specs.Lowest.{_when_, lowest, allAbove, rising, firstHolding}
-use Rattle.answers.specs.Promises.{TransactLowest, SetUpLowest, SampleLowest, LoadLowest, StoreLowest, WriteKeyLowest, ReadKeyLowest, UnescapeLowest, BlockLowest, WriteSheetLowest, OpenLowest, StepLowest, WriteCaptureLowest, ExchangeLowest, ComparisonLowest}
+use Rattle.answers.specs.Promises.{TransactLowest, SetUpLowest, SampleLowest, LoadLowest, StoreLowest, WriteKeyLowest, ReadKeyLowest, UnescapeLowest, BlockLowest, LocateLowest, WriteSheetLowest, OpenLowest, StepLowest, WriteCaptureLowest, ExchangeLowest, ComparisonLowest}
 use Rattle.answers.proofs.Lowest.{first-is-lowest}
 
 -- ---- one condition
@@ -105,6 +106,17 @@ unescape-lowest part room = plain-lowest (nameIn part) room
 pub block-lowest : BlockLowest
 unfolding blockAnswer
 block-lowest service factory = unless 9 (goodSheets service factory)
+
+located-served : (p : Part) → locatedBy p .answer ≡ 0
+located-served (ofService a e) = refl
+located-served (ofFactory a e) = refl
+
+pub locate-lowest : LocateLowest
+unfolding locatedOf
+locate-lowest service factory tag =
+    answers {A = Located} (λ r. r .answer) (goodSheets service factory) _ _
+    ∙ ap (λ a. cond (goodSheets service factory) a 9) (located-served (partOf service factory tag))
+    ∙ unless 9 (goodSheets service factory)
 
 -- what isn't at least a number is below it
 not-at-least : (a b : ℕ) → not (leb a b) ≡ ltb b a

@@ -17,7 +17,7 @@ use Rattle.pack.specs.declared.Sample.{Sample}
 use Rattle.pack.specs.declared.Setup.{Setup}
 use Rattle.pack.specs.declared.State.{State}
 use Rattle.pec.specs.Messages.{exchangeCheck, bitComparison}
-use Rattle.sheet.specs.Block.{blockAnswer}
+use Rattle.sheet.specs.Block.{blockAnswer, locatedOf}
 use Rattle.sheet.specs.Sheet.{Entry}
 use Rattle.sheet_writer.specs.Writing.{sheetWrote}
 use Rattle.answers.specs.Conditions.{transactConditions, setUpConditions, sampleConditions, loadConditions, storeConditions, writeKeyConditions, readKeyConditions, unescapeConditions, blockConditions, writeSheetConditions, captureConditions, writeCaptureConditions, exchangeConditions, comparisonConditions}
@@ -54,9 +54,12 @@ ReadKeyLowest = (bytes : List ℕ) → readOf (readKey bytes) .answer ≡ lowest
 abbrev pub UnescapeLowest : Type 0
 UnescapeLowest = (part room : List ℕ) → plainWrote (nameIn part) room .answer ≡ lowest (unescapeConditions part room)
 
--- `block_answer`, `write_sheet`
+-- `block_answer`, `locate`, `write_sheet`
 abbrev pub BlockLowest : Type 0
 BlockLowest = (service factory : List ℕ) → blockAnswer service factory ≡ lowest (blockConditions service factory)
+
+abbrev pub LocateLowest : Type 0
+LocateLowest = (service factory : List ℕ) (tag : ℕ) → locatedOf service factory tag .answer ≡ lowest (blockConditions service factory)
 
 abbrev pub WriteSheetLowest : Type 0
 WriteSheetLowest = (es : List Entry) (room : List ℕ) → sheetWrote es room .answer ≡ lowest (writeSheetConditions es room)
