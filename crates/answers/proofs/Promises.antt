@@ -12,7 +12,7 @@ use lib.ListN.{length, getD}
 use Rattle.area.specs.Area.{isArea, storable, loadedOf}
 use Rattle.bus.specs.Transact.{packSide, transactAnswer, transactOf}
 use Rattle.capture.specs.Capture.{isCapture}
-use Rattle.capture.specs.Walk.{openedOf}
+use Rattle.capture.specs.Walk.{openedOf, seenBad}
 use Rattle.capture_writer.specs.Writer.{captureWrote, captureAnswer, captureGiven, givenFit, roomAsked}
 use Rattle.capture_laws.proofs.Walked.{step-answer}
 use Rattle.rooms.specs.Rooms.{wrote}
@@ -24,10 +24,10 @@ use Rattle.commands.specs.declared.Kind.the-variants.{ReadWrite, ReadOnly, Bloc
 use Rattle.frame.specs.Transactions.{requestOf, foreign, misshapen, miscoded, writeOf}
 use Rattle.frame.specs.declared.Request.the-variants.{Refused, Read}
 use Rattle.names.specs.Names.{nameIn, plainWrote}
-use Rattle.key.specs.Key.{Parts, readKey, readOf}
+use Rattle.key.specs.Key.{Parts, readKey, readOf, foundOf}
 use Rattle.key_writer.specs.Writing.{keyWrote, refused}
-use Rattle.pack.specs.SetUp.{setUpOf, setUpRefused}
-use Rattle.pack.specs.declared.Started.{Started}
+use Rattle.start.specs.SetUp.{setUpOf, setUpRefused}
+use Rattle.start.specs.declared.Started.{Started}
 use Rattle.clock.specs.declared.Sampled.{Sampled}
 use Rattle.area.specs.declared.Loaded.{Loaded}
 use Rattle.rooms.specs.declared.Wrote.{Wrote}
@@ -40,7 +40,7 @@ use Rattle.sheet.specs.declared.Located.{Located}
 use Rattle.sheet_writer.specs.Writing.{sheetWrote, writable, short}
 use Rattle.answers.specs.Conditions.{commandOf, isReserved, isOptional, isReadOnly, isBlock, transactConditions, isNone, overflows}
 use Rattle.answers.specs.Lowest.{_when_, lowest, allAbove, rising, firstHolding}
-use Rattle.answers.specs.Promises.{TransactLowest, SetUpLowest, SampleLowest, LoadLowest, StoreLowest, WriteKeyLowest, ReadKeyLowest, UnescapeLowest, BlockLowest, LocateLowest, WriteSheetLowest, OpenLowest, StepLowest, WriteCaptureLowest, ExchangeLowest, ComparisonLowest}
+use Rattle.answers.specs.Promises.{TransactLowest, SetUpLowest, SampleLowest, LoadLowest, StoreLowest, WriteKeyLowest, ReadKeyLowest, FindLowest, UnescapeLowest, BlockLowest, LocateLowest, WriteSheetLowest, OpenLowest, StepLowest, WriteCaptureLowest, ExchangeLowest, ComparisonLowest}
 use Rattle.answers.proofs.Lowest.{first-is-lowest}
 
 -- ---- one condition
@@ -95,6 +95,13 @@ read-lowest (some p) = one 13 false
 pub read-key-lowest : ReadKeyLowest
 read-key-lowest bytes = read-lowest (readKey bytes)
 
+found-as-read : (o : Option Parts) → foundOf o .answer ≡ readOf o .answer
+found-as-read none = refl
+found-as-read (some p) = refl
+
+pub find-lowest : FindLowest
+find-lowest bytes = found-as-read (readKey bytes) ∙ read-key-lowest bytes
+
 plain-lowest : (o : Option (List ℕ)) (room : List ℕ) → plainWrote o room .answer ≡ lowest ((12 when overflows o room) ∷ (13 when isNone o) ∷ [])
 unfolding rising allAbove
 plain-lowest none room = two 12 13 false true refl
@@ -143,7 +150,7 @@ unfolding openedOf
 open-lowest bytes = answers {A = Opened} (λ r. r .answer) (isCapture bytes) _ _ ∙ unless 14 (isCapture bytes)
 
 pub step-lowest : StepLowest
-step-lowest bytes row place = step-answer bytes row place ∙ unless 14 (isCapture bytes)
+step-lowest bytes row place = step-answer bytes row place ∙ one 14 (seenBad bytes row place)
 
 -- the answer is given as it is
 as-it-is : (a written : ℕ) → cond (eqb a 0) (wrote 0 written) (wrote a 0) .answer ≡ a

@@ -8,6 +8,7 @@ use lib.Dec.{eqb, ltb}
 use lib.ListN.{length, getD}
 use Rattle.area.specs.Area.{isArea, storable}
 use Rattle.capture.specs.Capture.{isCapture}
+use Rattle.capture.specs.Walk.{seenBad}
 use Rattle.capture_writer.specs.Writer.{givenFit, roomAsked}
 use Rattle.commands.specs.Commands.{kindOf}
 use Rattle.commands.specs.declared.Kind.{Kind}
@@ -16,7 +17,7 @@ use Rattle.frame.specs.Transactions.{foreign, misshapen, miscoded}
 use Rattle.names.specs.Names.{nameIn}
 use Rattle.key.specs.Key.{readKey}
 use Rattle.pack.specs.Sound.{soundOf}
-use Rattle.pack.specs.declared.Setup.{Setup}
+use Rattle.start.specs.declared.Setup.{Setup}
 use Rattle.pack.specs.declared.State.{State}
 use Rattle.sheet.specs.Block.{goodSheets}
 use Rattle.sheet.specs.Sheet.{Entry}
@@ -62,7 +63,7 @@ isBlock ReadOnly = false
 isBlock ReadWrite = false
 
 -- 1: state isn't sound; 2: lent reply room under 34 bytes; 3: empty, or first byte isn't 0x16; 4: wrong size or form; 5: five-byte write, PEC wrong;
--- 6: reserved command; 7: optional command not built; 8: write to a read-only command; 9: block read, a sheet is bad; 10: AtRateTimeToFull in power mode
+-- 6: reserved command; 7: optional command not built; 8: write to a read-only command; 9: block read, a sheet is bad; 10: AtRateTimeToFull in power mode (RULES 1.1 to 1.10)
 abbrev pub transactConditions : State → List ℕ → List ℕ → Bool → List ℕ → ℕ → List Condition
 transactConditions s service factory read bytes room =
     (1 when not (soundOf s))
@@ -79,19 +80,19 @@ transactConditions s service factory read bytes room =
 
 -- ---- the state
 
--- 11: design capacity, full capacity or design voltage 0, or remaining above full
+-- 11: design capacity, full capacity or design voltage 0, or remaining above full (RULES 1.11)
 abbrev pub setUpConditions : Setup → List Condition
 setUpConditions u = (11 when (eqb (u .DesignCapacity) 0 || eqb (u .full) 0 || eqb (u .DesignVoltage) 0 || ltb (u .full) (u .remaining))) ∷ []
 
--- 1: state isn't sound; 2: broadcast room under 16 bytes
+-- 1: state isn't sound; 2: broadcast room under 16 bytes (RULES 1.1, 1.2)
 abbrev pub sampleConditions : State → ℕ → List Condition
 sampleConditions s room = (1 when not (soundOf s)) ∷ (2 when ltb room 16) ∷ []
 
--- 1: bytes are no area
+-- 1: bytes are no area (RULES 1.1)
 abbrev pub loadConditions : List ℕ → List Condition
 loadConditions area = (1 when not (isArea area)) ∷ []
 
--- 1: the room isn't one for an area, or the count of kept samples isn't a byte
+-- 1: the room isn't one for an area, or the count of kept samples isn't a byte (RULES 1.1)
 abbrev pub storeConditions : State → List ℕ → List Condition
 storeConditions s room = (1 when not (storable s room)) ∷ []
 
@@ -107,40 +108,44 @@ abbrev pub overflows : Option (List ℕ) → List ℕ → Bool
 overflows none room = false
 overflows (some name) room = ltb (length room) (length name)
 
--- 12: a name over 32 bytes, room under 139
+-- 12: a name over 32 bytes, room under 139 (RULES 1.12)
 abbrev pub writeKeyConditions : List ℕ → List ℕ → List ℕ → List Condition
 writeKeyConditions maker device room = (12 when (ltb 32 (length maker) || ltb 32 (length device) || ltb (length room) 139)) ∷ []
 
--- 13: bytes aren't a key
+-- 13: bytes aren't a key (RULES 1.13)
 abbrev pub readKeyConditions : List ℕ → List Condition
 readKeyConditions bytes = (13 when isNone (readKey bytes)) ∷ []
 
--- 12: the room is too short for the name; 13: no key shows such a part
+-- 12: the room is too short for the name; 13: no key shows such a part (RULES 1.12, 1.13)
 abbrev pub unescapeConditions : List ℕ → List ℕ → List Condition
 unescapeConditions part room = (12 when overflows (nameIn part) room) ∷ (13 when isNone (nameIn part)) ∷ []
 
--- 9: a sheet is bad
+-- 9: a sheet is bad (RULES 1.9)
 abbrev pub blockConditions : List ℕ → List ℕ → List Condition
 blockConditions service factory = (9 when not (goodSheets service factory)) ∷ []
 
--- 12: a body over 32 bytes, room under 145
+-- 12: a body over 32 bytes, room under 145 (RULES 1.12)
 abbrev pub writeSheetConditions : List Entry → List ℕ → List Condition
 writeSheetConditions es room = (12 when (not (short es) || ltb (length room) 145)) ∷ []
 
--- 14: bytes aren't a capture
+-- 14: bytes aren't a capture (RULES 1.14)
 abbrev pub captureConditions : List ℕ → List Condition
 captureConditions bytes = (14 when not (isCapture bytes)) ∷ []
 
--- 2: room too short for the capture; 14: no rows of a capture
+-- 14: a step sees that bytes aren't a capture (RULES 1.14)
+abbrev pub stepConditions : List ℕ → ℕ → ℕ → List Condition
+stepConditions bytes row place = (14 when seenBad bytes row place) ∷ []
+
+-- 2: room too short for the capture; 14: no rows of a capture (RULES 1.2, 1.14)
 abbrev pub writeCaptureConditions : List ℕ → List ℕ → List ℕ → List ℕ → List Condition
 writeCaptureConditions marks sizes bodies room = (2 when ltb (length room) (roomAsked marks sizes bodies)) ∷ (14 when not (givenFit marks sizes bodies)) ∷ []
 
 -- ---- PEC
 
--- 15: outside 2 to 37 bytes
+-- 15: outside 2 to 37 bytes (RULES 1.15)
 abbrev pub exchangeConditions : List ℕ → List Condition
 exchangeConditions bytes = (15 when (ltb (length bytes) 2 || ltb 37 (length bytes))) ∷ []
 
--- 15: unequal lengths or over 37
+-- 15: unequal lengths or over 37 (RULES 1.15)
 abbrev pub comparisonConditions : List ℕ → List ℕ → List Condition
 comparisonConditions xs ys = (15 when (not (eqb (length xs) (length ys)) || ltb 37 (length xs))) ∷ []

@@ -21,7 +21,7 @@ n when b = record { number = n; holds = b }
 abbrev pub lower : ℕ → ℕ → ℕ
 lower n others = cond (eqb others 0) n (min n others)
 
--- the lowest number whose condition holds, 0 when none does
+-- the lowest number whose condition holds, 0 when none does (RULES 2.1)
 unfoldable pub lowest : List Condition → ℕ
 lowest [] = 0
 lowest (c ∷ cs) = cond (c .holds) (lower (c .number) (lowest cs)) (lowest cs)

@@ -10,17 +10,17 @@ use Rattle.capture.specs.Walk.{openedOf, stepAt, answerOf}
 use Rattle.capture_writer.specs.Writer.{captureWrote}
 use Rattle.clock.specs.Broadcast.{sampleOf}
 use Rattle.names.specs.Names.{nameIn, plainWrote}
-use Rattle.key.specs.Key.{readKey, readOf}
+use Rattle.key.specs.Key.{readKey, readOf, foundOf}
 use Rattle.key_writer.specs.Writing.{keyWrote}
-use Rattle.pack.specs.SetUp.{setUpOf}
+use Rattle.start.specs.SetUp.{setUpOf}
 use Rattle.pack.specs.declared.Sample.{Sample}
-use Rattle.pack.specs.declared.Setup.{Setup}
+use Rattle.start.specs.declared.Setup.{Setup}
 use Rattle.pack.specs.declared.State.{State}
 use Rattle.pec.specs.Messages.{exchangeCheck, bitComparison}
 use Rattle.sheet.specs.Block.{blockAnswer, locatedOf}
 use Rattle.sheet.specs.Sheet.{Entry}
 use Rattle.sheet_writer.specs.Writing.{sheetWrote}
-use Rattle.answers.specs.Conditions.{transactConditions, setUpConditions, sampleConditions, loadConditions, storeConditions, writeKeyConditions, readKeyConditions, unescapeConditions, blockConditions, writeSheetConditions, captureConditions, writeCaptureConditions, exchangeConditions, comparisonConditions}
+use Rattle.answers.specs.Conditions.{transactConditions, setUpConditions, sampleConditions, loadConditions, storeConditions, writeKeyConditions, readKeyConditions, unescapeConditions, blockConditions, writeSheetConditions, captureConditions, stepConditions, writeCaptureConditions, exchangeConditions, comparisonConditions}
 use Rattle.answers.specs.Lowest.{lowest}
 
 -- `transact`
@@ -44,12 +44,15 @@ LoadLowest = (area : List ℕ) → loadedOf area .answer ≡ lowest (loadConditi
 abbrev pub StoreLowest : Type 0
 StoreLowest = (s : State) (room : List ℕ) → storedOf s room ≡ lowest (storeConditions s room)
 
--- `write_key`, `read_key`, `unescape`
+-- `write_key`, `read_key`, `find`, `unescape`
 abbrev pub WriteKeyLowest : Type 0
 WriteKeyLowest = (maker device : List ℕ) (date serial : ℕ) (room : List ℕ) → keyWrote maker device date serial room .answer ≡ lowest (writeKeyConditions maker device room)
 
 abbrev pub ReadKeyLowest : Type 0
 ReadKeyLowest = (bytes : List ℕ) → readOf (readKey bytes) .answer ≡ lowest (readKeyConditions bytes)
+
+abbrev pub FindLowest : Type 0
+FindLowest = (bytes : List ℕ) → foundOf (readKey bytes) .answer ≡ lowest (readKeyConditions bytes)
 
 abbrev pub UnescapeLowest : Type 0
 UnescapeLowest = (part room : List ℕ) → plainWrote (nameIn part) room .answer ≡ lowest (unescapeConditions part room)
@@ -69,7 +72,7 @@ abbrev pub OpenLowest : Type 0
 OpenLowest = (bytes : List ℕ) → openedOf bytes .answer ≡ lowest (captureConditions bytes)
 
 abbrev pub StepLowest : Type 0
-StepLowest = (bytes : List ℕ) (row place : ℕ) → answerOf (stepAt bytes row place) ≡ lowest (captureConditions bytes)
+StepLowest = (bytes : List ℕ) (row place : ℕ) → answerOf (stepAt bytes row place) ≡ lowest (stepConditions bytes row place)
 
 abbrev pub WriteCaptureLowest : Type 0
 WriteCaptureLowest = (marks sizes bodies room : List ℕ) → captureWrote marks sizes bodies room .answer ≡ lowest (writeCaptureConditions marks sizes bodies room)

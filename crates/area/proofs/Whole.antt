@@ -29,7 +29,7 @@ use Rattle.pack.specs.declared.Timers.{Timers}
 -- ---- laid at their places
 
 -- one part more, lent and given back
-lent : (before rest part : List ℕ) (at n : ℕ) {area : List ℕ} → area ≡ before ++ rest → length before ≡ at
+pub lent : (before rest part : List ℕ) (at n : ℕ) {area : List ℕ} → area ≡ before ++ rest → length before ≡ at
     → putMid at n area part ≡ before ++ part ++ drop n rest
 lent before rest part at n e k = rw (e, take-at before rest at k, drop-at before rest at k) (sym (append-assoc before part (drop n rest)))
 

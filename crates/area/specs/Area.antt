@@ -1,4 +1,4 @@
--- The state in a lent area of 186 bytes: the error code, then each part, the one that may grow last; each number low byte first.
+-- The state in a lent area of 186 bytes, for which document 01 has no rule: the error code, then each part, the one that may grow last; each number low byte first.
 --
 --   at   bytes
 --     0      1  error code
@@ -25,7 +25,7 @@ use Rattle.rooms.specs.Rooms.{between}
 use Rattle.numbers.specs.Numbers.{numberBytes, numberAt, bytesTaken}
 use Rattle.area_parts.specs.Parts.{settingsWidths, hostWidths, latestWidths, tankWidths, timersWidths, recentWidths, settingsBytes, hostBytes, latestBytes, tankBytes, timersBytes, recentBytes, settingsIn, hostIn, latestIn, tankIn, timersIn, recentIn, isHost, isTank}
 use Rattle.area.specs.declared.Loaded.{Loaded}
-use Rattle.pack.specs.SetUp.{zeroState}
+use Rattle.start.specs.SetUp.{zeroState}
 use Rattle.pack.specs.declared.State.{State}
 
 -- ---- where each part starts, and the bytes that an area has
@@ -53,7 +53,7 @@ areaLength = recentAt + bytesTaken recentWidths
 
 -- ---- written and read
 
--- the area that holds a state
+-- the area that holds a state (RULES 12.1)
 unfoldable pub areaOf : State → List ℕ
 areaOf s =
     numberBytes 1 (s .error)
@@ -64,7 +64,7 @@ areaOf s =
     ++ timersBytes (s .pack .timers)
     ++ recentBytes (s .pack .recent)
 
--- the state that an area holds
+-- the state that an area holds (RULES 12.1)
 unfoldable pub stateIn : List ℕ → State
 stateIn area =
     record {
@@ -80,14 +80,14 @@ stateIn area =
           };
     }
 
--- bytes are an area: as many as one has, each flag 0 or 1
+-- bytes are an area: as many as one has, each flag 0 or 1 (RULES 12.2)
 abbrev pub isArea : List ℕ → Bool
 isArea area =
     eqb (length area) areaLength && isHost (between area hostAt latestAt) && isTank (between area tankAt timersAt)
 
 -- ---- the two entries
 
--- document 01's number where bytes hold no sound state
+-- document 01's number where bytes hold no sound state (RULES 1.1)
 abbrev pub noState : ℕ
 noState = 1
 

@@ -25,15 +25,15 @@ use pack::State;
 // Where each part starts, and the bytes that an area has.
 const SETTINGS: usize = 1;
 
-const HOST: usize = SETTINGS + 18;
+pub const HOST: usize = SETTINGS + 18;
 
-const LATEST: usize = HOST + 11;
+pub const LATEST: usize = HOST + 11;
 
 const TANK: usize = LATEST + 10;
 
-const TIMERS: usize = TANK + 13;
+pub const TIMERS: usize = TANK + 13;
 
-const RECENT: usize = TIMERS + 12;
+pub const RECENT: usize = TIMERS + 12;
 
 pub const LENGTH: usize = RECENT + 121;
 
@@ -115,7 +115,7 @@ pub fn load(area: &[u8]) -> Loaded
             state: state,
         };
     }
-    let none = pack::zero();
+    let none = start::zero();
     Loaded {
         answer: 1,
         state: none,

@@ -9,7 +9,8 @@ use lib.ListN.{length, length-append}
 use lib.Seq.{sets}
 use Rattle.broadcasts.specs.Broadcasts.{alarmGoes, chargerGoes, alarmsOf, chargerWordsOf, broadcastOf, messagesOf}
 use Rattle.frame.specs.Broadcasts.{messageOf}
-use Rattle.status.specs.Status.{alarmWord, chargerAlarm, chargingCurrent}
+use Rattle.alarms.specs.Alarms.{chargerAlarm, chargingCurrent}
+use Rattle.status.specs.Status.{alarmWord}
 use Rattle.pack.specs.declared.Pack.{Pack}
 use Rattle.rooms.proofs.Rooms.{then}
 

@@ -6,28 +6,29 @@ use mathlib.Core.List.{List, [], _++_}
 use lib.Dec.{leb}
 use Rattle.frame.specs.Broadcasts.{messageOf}
 use Rattle.pack.specs.declared.Pack.{Pack}
-use Rattle.status.specs.Status.{anyAlarm, chargerAlarm, alarmWord, chargingCurrent}
+use Rattle.alarms.specs.Alarms.{anyAlarm, chargerAlarm, chargingCurrent}
+use Rattle.status.specs.Status.{alarmWord}
 
--- alarms go when any of the bits is set, ALARM_MODE is clear and 10,000 ms have passed since the last alarm
+-- alarms go when any of the bits is set, ALARM_MODE is clear and 10,000 ms have passed since the last alarm (RULES 8.2)
 unfoldable pub alarmGoes : Pack → Bool
 alarmGoes p = anyAlarm p && not (p .host .AlarmMode) && leb 10000 (p .timers .alarm)
 
--- charger words go each 30,000 ms while CHARGER_MODE is clear
+-- charger words go each 30,000 ms while CHARGER_MODE is clear (RULES 8.5)
 unfoldable pub chargerGoes : Pack → Bool
 chargerGoes p = not (p .host .ChargerMode) && leb 30000 (p .timers .charger)
 
--- AlarmWarning `10 16`, and `12 16` if bit 15, 14 or 12 is set
+-- AlarmWarning `10 16`, and `12 16` if bit 15, 14 or 12 is set (RULES 8.3)
 unfoldable pub alarmsOf : Pack → List ℕ
 alarmsOf p = cond (alarmGoes p) (messageOf 0x10 0x16 (alarmWord p) ++ cond (chargerAlarm p) (messageOf 0x12 0x16 (alarmWord p)) []) []
 
--- the `12 14` and `12 15` words
+-- the `12 14` and `12 15` words (RULES 8.5)
 unfoldable pub chargerWordsOf : Pack → List ℕ
 chargerWordsOf p = cond (chargerGoes p) (messageOf 0x12 0x14 (chargingCurrent p) ++ messageOf 0x12 0x15 (p .settings .ChargingVoltage)) []
 
--- messages, in order
+-- messages, in order (RULES 8.6)
 abbrev pub broadcastOf : Pack → List ℕ
 broadcastOf p = alarmsOf p ++ chargerWordsOf p
 
--- how many messages that is
+-- how many messages that is (RULES 8.1)
 abbrev pub messagesOf : Pack → ℕ
 messagesOf p = cond (alarmGoes p) (1 + cond (chargerAlarm p) 1 0) 0 + cond (chargerGoes p) 2 0

@@ -15,7 +15,7 @@ pub fn alarm_goes(p: Pack) -> bool
     requires { ⌜ (tankSound (p .tank) ≡ true) × (recentSound (p .recent) ≡ true) ⌝ }
     ensures { λ r. ⌜ r ≡ alarmGoes p ⌝ }
 {
-    status::any_alarm(p) & !p.host.AlarmMode & (10000 <= p.timers.alarm)
+    alarms::any_alarm(p) & !p.host.AlarmMode & (10000 <= p.timers.alarm)
 }
 
 pub fn charger_goes(p: Pack) -> bool
@@ -47,7 +47,7 @@ pub fn send_alarms(p: Pack, goes: bool, room: &mut [u8]) -> usize
     }
     let word = status::alarm_word(p);
     let next = frame::put_message(room, 0, 0x10, 0x16, word);
-    put_if(status::charger_alarm(p), room, next, 0x12, 0x16, word)
+    put_if(alarms::charger_alarm(p), room, next, 0x12, 0x16, word)
 }
 
 pub fn send_charger_words(p: Pack, goes: bool, room: &mut [u8], at: usize) -> usize
@@ -58,6 +58,6 @@ pub fn send_charger_words(p: Pack, goes: bool, room: &mut [u8], at: usize) -> us
     if !goes {
         return at;
     }
-    let next = frame::put_message(room, at, 0x12, 0x14, status::charging_current(p));
+    let next = frame::put_message(room, at, 0x12, 0x14, alarms::charging_current(p));
     frame::put_message(room, next, 0x12, 0x15, p.settings.ChargingVoltage)
 }

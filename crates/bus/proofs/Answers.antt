@@ -7,14 +7,13 @@ use mathlib.Core.Path.{_≡_, refl, ap, ap₂, sym, _∙_}
 use lib.Dec.{eqb}
 use lib.ListN.{length}
 use Rattle.bus.specs.Transact.{packSide, packAfter, outcome, asked, requestGiven, transactAnswer, transactReply, transactOf, replyRoom}
-use Rattle.bus.specs.declared.Transacted.{Transacted}
 use Rattle.commands.proofs.Answers as commands
 use Rattle.commands.specs.Answers.{requestAnswer, served, sideReply, rowReply}
 use Rattle.commands.specs.declared.Kind.the-variants.{ReadOnly}
 use Rattle.frame.specs.Transactions.{replyOf, wordBody}
 use Rattle.frame.specs.declared.Request.{Request}
 use Rattle.frame.specs.declared.Request.the-variants.{Refused, Read, Write}
-use Rattle.gauge.specs.Word.{wordOf, wordAnswer}
+use Rattle.gauge.specs.Word.{wordOf}
 use Rattle.pack.specs.Sound.{soundOf}
 use Rattle.pack.specs.declared.Pack.{Pack}
 use Rattle.pack.specs.declared.State.{State}

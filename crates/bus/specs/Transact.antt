@@ -21,7 +21,7 @@ use Rattle.written.specs.Written.{packWritten}
 
 -- ---- the pack's side of the bus
 
--- the pack at 0x16 with its table of commands; 2: lent reply room under 34 bytes; 10 comes with the word, 9 with the sheets
+-- the pack at 0x16 with its table of commands; 2: lent reply room under 34 bytes; 10 comes with the word, 9 with the sheets (RULES 1.2, 1.9, 1.10, 5.1)
 abbrev pub packSide : State → List ℕ → List ℕ → Side
 packSide s service factory =
     record {
@@ -37,7 +37,7 @@ packSide s service factory =
 
 -- ---- the state left
 
--- only a served write changes the pack
+-- only a served write changes the pack (RULES 2.3)
 abbrev pub packAfter : Pack → Request → ℕ → Pack
 packAfter p (Refused n) answer = p
 packAfter p (Read command) answer = p
@@ -45,20 +45,20 @@ packAfter p (Write command word checked) answer = cond (served answer) (packWrit
 
 -- ---- the entry
 
--- the answer, the state with the error code that it leaves, and the number of reply bytes
+-- the answer, the state with the error code that it leaves, and the number of reply bytes (RULES 2.6)
 abbrev pub outcome : State → ℕ → Pack → ℕ → Transacted
 outcome s answer pack length =
     record { answer = answer; state = record { error = codeAfter answer (s .error); pack = pack }; length = length }
 
--- the request that the driver's bytes and mark are, at the write byte 0x16
+-- the request that the driver's bytes and mark are, at the write byte 0x16 (RULES 5.1)
 abbrev pub asked : Bool → List ℕ → Request
 asked read bytes = requestOf 0x16 read bytes
 
--- the answer to the driver's bytes and mark, for a state, the service and the factory sheet, and the length of the lent reply room
+-- the answer to the driver's bytes and mark, for a state, the service and the factory sheet, and the length of the lent reply room (RULES 2.1)
 unfoldable pub transactAnswer : State → List ℕ → List ℕ → Bool → List ℕ → ℕ → ℕ
 transactAnswer s service factory read bytes room = sideAnswer (packSide s service factory) (asked read bytes) room
 
--- the reply to them
+-- the reply to them (RULES 5.4)
 unfoldable pub transactReply : State → List ℕ → List ℕ → Bool → List ℕ → ℕ → List ℕ
 transactReply s service factory read bytes room =
     sideReply (packSide s service factory) bytes (asked read bytes) (transactAnswer s service factory read bytes room)
@@ -73,11 +73,11 @@ abbrev pub rowGiven : State → List ℕ → List ℕ → List ℕ → ℕ → K
 rowGiven s service factory bytes command kind =
     outcome s (readAnswer (packSide s service factory) command kind) (s .pack) (length (rowReply (packSide s service factory) bytes command kind))
 
--- what the driver's bytes and mark are given
+-- what the driver's bytes and mark are given (RULES 2)
 unfoldable pub transactOf : State → List ℕ → List ℕ → Bool → List ℕ → ℕ → Transacted
 transactOf s service factory read bytes room =
     requestGiven s service factory bytes (asked read bytes) (transactAnswer s service factory read bytes room)
 
--- the lent reply room: the reply's bytes at the front, the rest stays
+-- the lent reply room: the reply's bytes at the front, the rest stays (RULES 2.3, 2.5)
 unfoldable pub replyRoom : State → List ℕ → List ℕ → Bool → List ℕ → List ℕ → List ℕ
 replyRoom s service factory read bytes room = placed (transactReply s service factory read bytes (length room)) room

@@ -11,8 +11,7 @@ use lib.ListN.{length, length-append}
 use Rattle.area.specs.Area.{areaLength, areaOf, stateIn, isArea, loadedOf}
 use Rattle.area.specs.Area as area
 use Rattle.area.specs.declared.Loaded.{Loaded}
-use Rattle.bus.proofs.Answers.{unsound}
-use Rattle.bus.specs.Transact.{packSide, packAfter, asked, transactAnswer, transactOf}
+use Rattle.bus.specs.Transact.{packSide, asked, transactAnswer, transactOf}
 use Rattle.bus.specs.Transact as bus
 use Rattle.commands.specs.Answers.{served, readBody, sideReply}
 use Rattle.commands.specs.Commands.{kindOf}
@@ -27,20 +26,16 @@ use Rattle.clock.specs.declared.Sampled.{Sampled}
 use Rattle.frame.specs.Transactions.{replyOf}
 use Rattle.frame.specs.declared.Request.{Request}
 use Rattle.frame.specs.declared.Request.the-variants.{Refused, Read, Write}
-use Rattle.pack.proofs.Soundness.{parts, pack-of-sound}
-use Rattle.pack.specs.SetUp.{setUpRefused, packOf, setUpOf}
+use Rattle.start.specs.SetUp.{setUpRefused, packOf, setUpOf}
 use Rattle.pack.specs.Sound.{soundOf}
-use Rattle.pack.specs.declared.Pack.{Pack}
 use Rattle.pack.specs.declared.Sample.{Sample}
-use Rattle.pack.specs.declared.Setup.{Setup}
-use Rattle.pack.specs.declared.Started.{Started}
+use Rattle.start.specs.declared.Setup.{Setup}
+use Rattle.start.specs.declared.Started.{Started}
 use Rattle.pack.specs.declared.State.{State}
-use Rattle.recent.proofs.Soundness.{recent-facts}
 use Rattle.sheet.proofs.Names.{block-short}
 use Rattle.packed.proofs.Choice.{chosen}
 use Rattle.calls.specs.Calls.{startNumber, startArea, stays, areaAfter, sampleNumber, sampleArea, sampleRoom, transactNumber, transactArea, transactRoom}
 use Rattle.packed.specs.Packed.{packed}
-use Rattle.written.specs.Written.{packWritten}
 
 -- ---- loaded and stored
 
@@ -120,12 +115,6 @@ module _ (a : List ℕ) (x : Sample) (room : List ℕ) {l : Loaded} (loaded : l 
 
 -- ---- transactions
 
-recent-stays : (p : Pack) (q : Request) (answer : ℕ) → packAfter p q answer .recent ≡ p .recent
-unfolding packWritten
-recent-stays p (Refused n) answer = refl
-recent-stays p (Read command) answer = refl
-recent-stays p (Write command word checked) answer = chosen (λ (u : Pack). u .recent ≡ p .recent) (served answer) (λ e. refl) (λ e. refl)
-
 body-most : (s : State) (service factory : List ℕ) (k : Kind) (command : ℕ) → length (readBody (packSide s service factory) command k) ≤ 33
 body-most s service factory ReadWrite command = omega arith
 body-most s service factory ReadOnly command = omega arith
@@ -138,18 +127,6 @@ unfolding replyOf
 one-more request body h = rw length-append (omega (arith, h))
 
 module _ (s : State) (service factory : List ℕ) (read : Bool) (bytes : List ℕ) (room : ℕ) where
-  pub transact-count : stays (transactOf s service factory read bytes room .answer) ≡ false
-      → transactOf s service factory read bytes room .state .pack .recent .count ≤ 60
-  unfolding transactOf
-  transact-count h = go (soundOf s) refl
-    where
-      answer : ℕ
-      answer = transactAnswer s service factory read bytes room
-
-      go : (b : Bool) → soundOf s ≡ b → packAfter (s .pack) (asked read bytes) answer .recent .count ≤ 60
-      go true e = rw (recent-stays (s .pack) (asked read bytes) answer) (recent-facts (s .pack .recent) (parts (s .pack) (pack-of-sound s e) .recent) .most)
-      go false e = absurd (true≢false (sym (ap stays (unsound s service factory read bytes room e)) ∙ h))
-
   reply-most : (q : Request) (answer : ℕ) → length (sideReply (packSide s service factory) bytes q answer) ≤ 34
   reply-most (Refused n) answer = omega arith
   reply-most (Read command) answer =

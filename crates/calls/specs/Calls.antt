@@ -12,29 +12,29 @@ use Rattle.clock.specs.Broadcast as clock
 use Rattle.clock.specs.declared.Sampled.{Sampled}
 use Rattle.pack.specs.Sound.{soundOf}
 use Rattle.pack.specs.declared.Sample.{Sample}
-use Rattle.pack.specs.declared.Started.{Started}
+use Rattle.start.specs.declared.Started.{Started}
 use Rattle.pack.specs.declared.State.{State}
 use Rattle.packed.specs.Packed.{packed}
 
 -- ---- set-up
 
--- no state goes into an area of another size; else set-up's own answer
+-- no state goes into an area of another size; else set-up's own answer (RULES 1.1, 1.11)
 abbrev pub startNumber : List ℕ → Started → ℕ
 startNumber area started = cond (eqb (length area) areaLength) (started .answer) noState
 
--- a served set-up leaves its state; a refused one the area as it was
+-- a served set-up leaves its state; a refused one the area as it was (RULES 1.11)
 abbrev pub startArea : List ℕ → Started → List ℕ
 startArea area started = cond (eqb (length area) areaLength && eqb (started .answer) 0) (areaOf (started .state)) area
 
 -- ---- soundness
 
--- the bytes are an area, and its state is sound
+-- the bytes are an area, and its state is sound (RULES 12.2)
 abbrev pub soundIn : List ℕ → Bool
 soundIn area = isArea area && soundOf (stateIn area)
 
 -- ---- samples and transactions
 
--- 1 and 2 change nothing; with any other answer the area holds the state that the call leaves
+-- 1 and 2 change nothing; with any other answer the area holds the state that the call leaves (RULES 2.3)
 abbrev pub stays : ℕ → Bool
 stays answer = eqb answer 1 || eqb answer 2
 

@@ -4,12 +4,15 @@ ghost use mathlib.Core.Bool.{false};
 ghost use Prim.Native.Nat.{_≤_};
 ghost use lib.ListN.{length};
 ghost use Rattle.area.specs.Area.{areaLength};
-ghost use Rattle.pack.specs.SetUp.{setUpOf};
+ghost use Rattle.start.specs.SetUp.{setUpOf};
 ghost use Rattle.calls.specs.Calls.{startNumber, startArea, soundIn, stays, areaAfter, sampleNumber, sampleArea, sampleRoom, transactNumber, transactArea, transactRoom};
+ghost use Rattle.calls.specs.Stores.{errorStored, writtenStored, transactStored};
+use area_parts::put_host;
+use area_parts::put_timers;
 use pack::Sample;
-use pack::Setup;
 use pack::State;
 use packed::pack_up;
+use start::Setup;
 
 // Set-up refused, or bytes of another size: the area stays.
 pub fn set_up(area: &mut [u8], setup: Setup, first: Sample) -> u32
@@ -19,7 +22,7 @@ pub fn set_up(area: &mut [u8], setup: Setup, first: Sample) -> u32
     if area.len() != area::LENGTH {
         return 1;
     }
-    let started = pack::set_up(setup, first);
+    let started = start::set_up(setup, first);
     if started.answer != 0 {
         return pack_up(started.answer, 0);
     }
@@ -37,7 +40,7 @@ pub fn sound(area: &[u8]) -> bool
     pack::sound(held.state)
 }
 
-// What a call leaves in the area.
+// What a sample leaves in the area: 1 and 2 store nothing.
 fn keep(area: &mut [u8], answer: u8, state: State)
     requires { ⌜ (length (now area) ≡ areaLength) × (stays answer ≡ false → state .pack .recent .count ≤ 60) ⌝ }
     ensures { λ _. ⌜ now (area .exit) ≡ areaAfter (now (area .entry)) answer state ⌝ }
@@ -65,6 +68,38 @@ pub fn sample(area: &mut [u8], sample: Sample, room: &mut [u8]) -> u32
     pack_up(out.answer, out.length)
 }
 
+// The error code alone.
+fn keep_error(area: &mut [u8], error: u8)
+    requires { ⌜ length (now area) ≡ areaLength ⌝ }
+    ensures { λ _. ⌜ now (area .exit) ≡ errorStored (now (area .entry)) error ⌝ }
+{
+    area[0] = error;
+}
+
+// The error code, what the host wrote and the timers.
+fn keep_write(area: &mut [u8], state: State)
+    requires { ⌜ length (now area) ≡ areaLength ⌝ }
+    ensures { λ _. ⌜ now (area .exit) ≡ writtenStored (now (area .entry)) state ⌝ }
+{
+    keep_error(area, state.error);
+    put_host(&mut area[area::HOST..area::LATEST], state.pack.host);
+    put_timers(&mut area[area::TIMERS..area::RECENT], state.pack.timers);
+}
+
+// What a transaction stores, so that no byte of an EEPROM is written for nothing.
+fn keep_transacted(area: &mut [u8], read: bool, answer: u8, state: State)
+    requires { ⌜ length (now area) ≡ areaLength ⌝ }
+    ensures { λ _. ⌜ now (area .exit) ≡ transactStored (now (area .entry)) read answer state ⌝ }
+{
+    if (answer == 0) & !read {
+        return keep_write(area, state);
+    }
+    if (0 < answer) & (answer <= 3) {
+        return;
+    }
+    keep_error(area, state.error);
+}
+
 pub fn transact<'a>(
     area: &mut [u8],
     service: &'a [u8],
@@ -82,6 +117,6 @@ pub fn transact<'a>(
         return 1;
     }
     let done = bus::transact(held.state, service, factory, read, bytes, room);
-    keep(area, done.answer, done.state);
+    keep_transacted(area, read, done.answer, done.state);
     pack_up(done.answer, done.length)
 }

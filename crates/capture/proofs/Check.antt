@@ -8,7 +8,7 @@ use native.Mathlib.Omega.{arith}
 use lib.Dec.{leb, eqb}
 use lib.ListN.{length}
 use borrow.Author.Tests.{le-leb, lt-leb, eq-eqb, leb-true, eqb-true}
-use Rattle.capture.specs.Capture.{fits, countIn, markIn, lengthIn, placeIn, rowsFit, isCapture}
+use Rattle.capture.specs.Capture.{fits, captureMost, countIn, markIn, lengthIn, placeIn, rowsFit, isCapture}
 
 module _ (s : List ℕ) where
   pub place-start : 2 * countIn s + 1 ≡ placeIn s 0
@@ -85,5 +85,5 @@ place-most s (suc row) e =
     omega (arith, place-most s row (a .0), leb-true (lengthIn s row) 37 (b .1))
 
 -- no capture is longer
-pub longest : (s : List ℕ) → isCapture s ≡ true → length s ≤ 1 + 255 * 39
+pub longest : (s : List ℕ) → isCapture s ≡ true → length s ≤ captureMost
 longest s e = let f = facts s e in omega (arith, place-most s (countIn s) (f .rows))

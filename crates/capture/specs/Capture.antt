@@ -1,4 +1,4 @@
--- What a capture is: "byte n, n rows of mark (0 write, 1 read) and length (0 to 37), then the bodies, to the exact end".
+-- Document 01, Pack sheet and capture: what a capture is, "byte n, n rows of mark (0 write, 1 read) and length (0 to 37), then the bodies, to the exact end".
 -- Said twice: of rows, and of bytes; `proofs/Exact.antt` proves the two the same. Assumes nothing: these are definitions.
 use mathlib.Core.Path.{_≡_}
 use mathlib.Core.Bool.{Bool, true, _&&_}
@@ -12,7 +12,7 @@ pub record Row : Type 0 where
   pub mark : ℕ
   pub body : List ℕ
 
--- mark 0 (write) or 1 (read), length 0 to 37
+-- mark 0 (write) or 1 (read), length 0 to 37 (RULES 10.2)
 abbrev pub fits : ℕ → ℕ → Bool
 fits mark size = leb mark 1 && leb size 37
 
@@ -34,11 +34,15 @@ unfoldable pub rowBodies : List Row → List ℕ
 rowBodies [] = []
 rowBodies (r ∷ rows) = r .body ++ rowBodies rows
 
--- byte n, n rows of mark and length, then the bodies
+-- byte n, n rows of mark and length, then the bodies (RULES 10.1)
 abbrev pub captureOf : List Row → List ℕ
 captureOf rows = length rows ∷ (tableOf rows ++ rowBodies rows)
 
--- the capture of some rows
+-- the bytes of the longest capture: byte n, and 255 rows of mark, length and 37 bytes (RULES 10.2)
+abbrev pub captureMost : ℕ
+captureMost = 1 + 255 * 39
+
+-- the capture of some rows (RULES 10.1)
 abbrev pub IsCapture : List ℕ → Type 0
 IsCapture s = (rows : List Row) × (RowsFit rows × (s ≡ captureOf rows))
 
@@ -64,6 +68,6 @@ unfoldable pub rowsFit : List ℕ → ℕ → Bool
 rowsFit s zero = true
 rowsFit s (suc row) = rowsFit s row && fits (markIn s row) (lengthIn s row)
 
--- byte n; the rows are there, and fit; the last body ends where the bytes end
+-- byte n; the rows are there, and fit; the last body ends where the bytes end (RULES 10.1, 10.2)
 unfoldable pub isCapture : List ℕ → Bool
 isCapture s = leb (countIn s) 255 && leb (placeIn s 0) (length s) && rowsFit s (countIn s) && eqb (placeIn s (countIn s)) (length s)

@@ -5,6 +5,9 @@ ghost use denote.Ref.{ptr};
 ghost use Rattle.capture.specs.Capture.{isCapture};
 ghost use Rattle.capture.specs.Walk.{openedOf, stepAt, bodyAt, bodyPlace};
 
+// No capture is longer: its count, and 255 rows of mark, length and 37 bytes.
+const LONGEST: usize = 1 + 255 * 39;
+
 // What a capture holds: its number of rows, and the place of the first.
 pub struct Opened {
     pub answer: u8,
@@ -16,8 +19,9 @@ pub struct Opened {
 pub enum Step {
     // The row's mark, the next row and the next place.
     Next(u8, usize, usize),
-    // No such row, or no room for its body at the place.
+    // No such row, or a place at which no body can start or this one would pass the end.
     End,
+    // The step sees that the bytes are no capture.
     NotCapture,
 }
 
@@ -69,24 +73,45 @@ pub fn open(s: &[u8]) -> Opened
     }
 }
 
-// The row's mark, and the next row and place.
+// The row's mark, and the next row and place. Opening tests the whole, and a step its own row: so a walk is linear.
 pub fn step_at(s: &[u8], row: usize, place: usize) -> Step
     ensures { λ r. ⌜ r ≡ stepAt (now (s .entry)) row place ⌝ }
 {
-    if !is_capture(s) {
+    let size = s.len();
+    if place == 0 {
         return Step::NotCapture;
     }
-    if wide(s[0]) <= row {
+    if size == 0 {
+        return Step::NotCapture;
+    }
+    let n = wide(s[0]);
+    if size < 2 * n + 1 {
+        return Step::NotCapture;
+    }
+    if LONGEST < size {
+        return Step::NotCapture;
+    }
+    if n <= row {
         return Step::End;
     }
-    let n = wide(s[2 * row + 2]);
-    if s.len() < place {
+    let mark = s[2 * row + 1];
+    if 1 < mark {
+        return Step::NotCapture;
+    }
+    let bytes = wide(s[2 * row + 2]);
+    if 37 < bytes {
+        return Step::NotCapture;
+    }
+    if place < 2 * n + 1 {
         return Step::End;
     }
-    if s.len() - place < n {
+    if size < place {
         return Step::End;
     }
-    Step::Next(s[2 * row + 1], row + 1, place + n)
+    if size - place < bytes {
+        return Step::End;
+    }
+    Step::Next(mark, row + 1, place + bytes)
 }
 
 // The row's body: a part of the capture, of no bytes at its front where there is no such row.

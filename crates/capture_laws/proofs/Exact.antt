@@ -137,11 +137,11 @@ unfolding placeIn
 place-suc s k = refl
 
 -- places never fall
-place-le : (s : List ℕ) (k m n : ℕ) → k + m ≡ n → placeIn s k ≤ placeIn s n
+pub place-le : (s : List ℕ) (k m n : ℕ) → k + m ≡ n → placeIn s k ≤ placeIn s n
 place-le s k zero n e = let same : k ≡ n = omega arith in rw same (omega arith)
 place-le s k (suc m) n e = omega (arith, place-suc s k, place-le s (suc k) m n (omega arith))
 
-fit-one : (s : List ℕ) (k m n : ℕ) → suc k + m ≡ n → rowsFit s n ≡ true → fits (markIn s k) (lengthIn s k) ≡ true
+pub fit-one : (s : List ℕ) (k m n : ℕ) → suc k + m ≡ n → rowsFit s n ≡ true → fits (markIn s k) (lengthIn s k) ≡ true
 unfolding rowsFit
 fit-one s k m zero e h = absurd (omega arith)
 fit-one s k zero (suc n) e h = let same : k ≡ n = omega arith in rw same (and-eq-true-iff (rowsFit s n) (fits (markIn s n) (lengthIn s n)) .0 h .1)

@@ -1,4 +1,4 @@
--- A reader walks every row of a capture once and in order, and stops. Assumes nothing.
+-- A reader walks every row of a capture once and in order, and stops; of other bytes it shows none. Assumes nothing.
 use mathlib.Core.Path.{_≡_, refl, sym, ap, _∙_}
 use mathlib.Core.Bool.{true}
 use mathlib.Core.List.{List, _∷_}
@@ -14,9 +14,9 @@ use Rattle.capture.proofs.Check.{place-start}
 use Rattle.capture.proofs.Steps.{opened}
 use Rattle.reader.specs.declared.Reader.{Reader}
 use Rattle.reader.specs.Reading.{startOf, stepOf, bodyOf, afterOf, moved, shownBy}
-use Rattle.capture_laws.specs.Laws.{readerAt, ReaderMoves, ReaderMoved, ReaderEnds, ReaderStays, ReaderShowsAll}
+use Rattle.capture_laws.specs.Laws.{readerAt, ReaderMoves, ReaderMoved, ReaderEnds, ReaderStays, ReaderShowsAll, ReaderRefuses, ReaderFromStart}
 use Rattle.capture_laws.proofs.Exact.{capture-is}
-use Rattle.capture_laws.proofs.Walked.{step-row, exact-end, walked}
+use Rattle.capture_laws.proofs.Walked.{step-row, last-place, exact-end, walked, others-refused, walk-opened}
 
 -- it goes where the step says
 goes : (bytes : RefT (List ℕ)) (row : ℕ) (t : Step) → stepOf (readerAt bytes row) ≡ t
@@ -39,7 +39,7 @@ moved-to bytes e k h =
 
 -- past the last row it is at the exact end, says so, and stays
 pub ends : ReaderEnds
-ends bytes e = let last = exact-end (now bytes) e in (last .1 (placeIn (now bytes) (countIn (now bytes))), last .0)
+ends bytes e = let last = exact-end (now bytes) e in (last .1 (placeIn (now bytes) (countIn (now bytes))) (last-place (now bytes) e), last .0)
 
 pub stays : ReaderStays
 stays bytes e = goes bytes (countIn (now bytes)) _ (ends bytes e .0)
@@ -64,3 +64,18 @@ reads rows f bytes e k h =
     ∙ ap (λ (s : List ℕ). walk k s 0 (openedOf s .place)) e
     ∙ ap (λ (o : Opened). walk k (captureOf rows) 0 (o .place)) (sym (opened (captureOf rows) _ (capture-is rows f) refl))
     ∙ walked rows f k h
+
+-- at the start of other bytes it says that they are no capture, and stays
+pub refuses : ReaderRefuses
+refuses bytes e = (refused, stay)
+  where
+    refused : stepOf (startOf bytes) ≡ NotCapture
+    refused = others-refused (now bytes) e .1 0 .0
+
+    stay : (k : ℕ) → moved k (startOf bytes) ≡ startOf bytes
+    stay zero = refl
+    stay (suc k) = ap (λ (t : Step). moved k (record { bytes = bytes; row = rowAfter t 0; place = placeAfter t (openedOf (now bytes) .place) })) refused ∙ stay k
+
+-- of a capture its rows, of other bytes none
+pub reads-opened : ReaderFromStart
+reads-opened bytes k h = shown-walk k (startOf bytes) ∙ walk-opened (now bytes) k h

@@ -1,4 +1,4 @@
--- Writing a capture into a lent room. Assumes nothing: these are definitions.
+-- Document 01, Pack sheet and capture: writing a capture into a lent room. Assumes nothing: these are definitions.
 use mathlib.Core.Bool.{Bool, true, cond, _&&_}
 use mathlib.Core.List.{List, [], _∷_}
 use Prim.Native.Nat.{ℕ, _+_}
@@ -29,7 +29,7 @@ unfoldable pub sum : List ℕ → ℕ
 sum [] = 0
 sum (size ∷ sizes) = size + sum sizes
 
--- as many lengths as marks, their number a byte, each row fits, and the lengths make up the bodies
+-- as many lengths as marks, their number a byte, each row fits, and the lengths make up the bodies (RULES 10.1, 10.2)
 unfoldable pub givenFit : List ℕ → List ℕ → List ℕ → Bool
 givenFit marks sizes bodies = eqb (length marks) (length sizes) && leb (length marks) 255 && pairsFit marks sizes && eqb (sum sizes) (length bodies)
 
@@ -41,7 +41,7 @@ roomAsked marks sizes bodies = 1 + length marks + length sizes + length bodies
 abbrev pub captureGiven : List ℕ → List ℕ → List ℕ → List ℕ
 captureGiven marks sizes bodies = captureOf (rowsGiven marks sizes bodies)
 
--- of a room of so many bytes. 2: it is too short; 14: no rows of a capture; else 0
+-- of a room of so many bytes. 2: it is too short; 14: no rows of a capture; else 0 (RULES 1.2, 1.14)
 abbrev pub captureAnswer : List ℕ → List ℕ → List ℕ → ℕ → ℕ
 captureAnswer marks sizes bodies room = cond (leb (roomAsked marks sizes bodies) room) (cond (givenFit marks sizes bodies) 0 14) 2
 
@@ -52,6 +52,6 @@ captureWrote marks sizes bodies room =
     (wrote 0 (length (captureGiven marks sizes bodies)))
     (wrote (captureAnswer marks sizes bodies (length room)) 0)
 
--- the capture at the front; else all stays
+-- the capture at the front; else all stays (RULES 2.5)
 unfoldable pub captureRoom : List ℕ → List ℕ → List ℕ → List ℕ → List ℕ
 captureRoom marks sizes bodies room = cond (eqb (captureAnswer marks sizes bodies (length room)) 0) (placed (captureGiven marks sizes bodies) room) room

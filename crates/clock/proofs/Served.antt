@@ -9,7 +9,7 @@ use Rattle.broadcasts.specs.Broadcasts.{alarmGoes, chargerGoes, broadcastOf}
 use Rattle.clock.specs.Broadcast.{sampledOf, servedSample}
 use Rattle.clock.specs.Sample.{movedOf, elapsedOf}
 use Rattle.clock.specs.declared.Sampled.{Sampled}
-use Rattle.pack.specs.SetUp.{latestOf}
+use Rattle.pack.specs.Kept.{latestOf}
 use Rattle.pack.specs.Sound.{tankSound}
 use Rattle.pack.specs.declared.Pack.{Pack}
 use Rattle.pack.specs.declared.Sample.{Sample}

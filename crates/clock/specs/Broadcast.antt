@@ -27,11 +27,11 @@ sampledOf p s =
       timers = restartedOf (movedOf p s .timers) (alarmGoes (movedOf p s)) (chargerGoes (movedOf p s));
     }
 
--- a refused sample: everything as it was, the other numbers 0
+-- a refused sample: everything as it was, the other numbers 0 (RULES 2.3, 2.4)
 abbrev pub refusedSample : ℕ → State → Sampled
 refusedSample answer s = record { answer = answer; state = s; length = 0; messages = 0 }
 
--- a served sample: the error code stays
+-- a served sample: the error code stays (RULES 2.7)
 abbrev pub servedSample : State → Sample → Sampled
 servedSample s sample =
     record {
@@ -41,14 +41,14 @@ servedSample s sample =
       messages = messagesOf (movedOf (s .pack) sample);
     }
 
--- 1: state isn't sound; 2: broadcast room under 16 bytes; else 0
+-- 1: state isn't sound; 2: broadcast room under 16 bytes; else 0 (RULES 1.1, 1.2)
 unfoldable pub sampleOf : State → Sample → ℕ → Sampled
 sampleOf s sample room =
     cond (not (soundOf s)) (refusedSample 1 s)
     (cond (ltb room 16) (refusedSample 2 s)
     (servedSample s sample))
 
--- a refusal writes nothing; a broadcast is at the front and the rest of the room stays
+-- a refusal writes nothing; a broadcast is at the front and the rest of the room stays (RULES 2.3, 2.5)
 unfoldable pub broadcastRoom : State → Sample → List ℕ → List ℕ
 broadcastRoom s sample room =
     cond (not (soundOf s)) room

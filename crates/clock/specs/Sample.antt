@@ -1,18 +1,18 @@
 -- Document 01, Clock and broadcasts: what a sample does to the pack before anything is sent.
 -- Assumes nothing.
 use Prim.Native.Nat.{ℕ, _+_, _-_, _%_, _^_}
-use Rattle.pack.specs.SetUp.{latestOf}
+use Rattle.pack.specs.Kept.{latestOf}
 use Rattle.pack.specs.declared.Pack.{Pack}
 use Rattle.pack.specs.declared.Sample.{Sample}
 use Rattle.recent.specs.Recent.{recentAfter}
 use Rattle.tank.specs.Charge.{tankAfter}
 use Rattle.timers.specs.Countdown.{holdAfter, hostAfter, timersAfter}
 
--- elapsed is the new reading minus the old, wrapping
+-- elapsed is the new reading minus the old, wrapping (RULES 7.2)
 abbrev pub elapsedOf : ℕ → ℕ → ℕ
 elapsedOf new old = (new + 2 ^ 32 - old) % 2 ^ 32
 
--- the pack at the moment of sending: charge, kept samples, bit 4, countdown and timers are done
+-- the pack at the moment of sending: charge, kept samples, bit 4, countdown and timers are done (RULES 7.3 to 7.6)
 unfoldable pub movedOf : Pack → Sample → Pack
 movedOf p s =
     record {

@@ -11,7 +11,7 @@ use mir.ValLaws.{toZ-ofZ}
 use Rattle.tank.specs.Charge.{chargeAfter}
 use Rattle.clock_laws.specs.Promises.{ChargeTrue}
 use Rattle.clock_laws.specs.Steps.{heldTo}
-use Rattle.pack.proofs.Start.{word-fits}
+use Rattle.pack.proofs.Kept.{word-fits}
 use Rattle.words.proofs.Integers.{split}
 use Rattle.capacity.specs.Capacity.{milliampMs}
 

@@ -10,9 +10,9 @@ use Rattle.clock.specs.Sample.{elapsedOf, movedOf}
 use Rattle.clock_laws.proofs.Sound.{outcome}
 use Rattle.clock_laws.proofs.Timers.{no-more}
 use Rattle.clock_laws.specs.Promises.{SampledFits}
-use Rattle.pack.proofs.Start.{word-fits, kept-fits}
+use Rattle.pack.proofs.Kept.{word-fits, kept-fits}
 use Rattle.pack.specs.Fits.{Fits, PackFits, SampleFits, TankFit}
-use Rattle.pack.specs.SetUp.{latestOf}
+use Rattle.pack.specs.Kept.{latestOf}
 use Rattle.pack.specs.declared.Pack.{Pack}
 use Rattle.pack.specs.declared.Sample.{Sample}
 use Rattle.pack.specs.declared.Tank.{Tank}

@@ -14,7 +14,7 @@ use Rattle.clock.specs.declared.Sampled.{Sampled}
 use Rattle.clock_laws.specs.Promises.{SampleSound, ErrorStays}
 use Rattle.clock_laws.proofs.Timers.{no-more}
 use Rattle.pack.proofs.Soundness.{timers-facts, timers-sound, parts, pack-sound, pack-of-sound, code-of-sound, sound-state}
-use Rattle.pack.specs.SetUp.{latestOf}
+use Rattle.pack.specs.Kept.{latestOf}
 use Rattle.pack.specs.Sound.{soundOf}
 use Rattle.pack.specs.declared.Sample.{Sample}
 use Rattle.pack.specs.declared.State.{State}

@@ -11,7 +11,7 @@ use Rattle.clock.specs.Broadcast.{sampledOf}
 use Rattle.clock.specs.Sample.{movedOf}
 use Rattle.clock_laws.specs.Promises.{SilentInAlarmMode, SilentInChargerMode}
 use Rattle.clock_laws.specs.Steps.{gap, Timed}
-use Rattle.status.specs.Status.{anyAlarm}
+use Rattle.alarms.specs.Alarms.{anyAlarm}
 use Rattle.pack.specs.declared.Pack.{Pack}
 use Rattle.pack.specs.declared.Sample.{Sample}
 

@@ -13,7 +13,7 @@ use Rattle.clock.specs.Broadcast.{sampleOf, broadcastRoom}
 use Rattle.clock.specs.Sample.{elapsedOf}
 use Rattle.clock_laws.specs.Steps.{heldTo}
 use Rattle.pack.specs.Fits.{Fits, SampleFits}
-use Rattle.pack.specs.SetUp.{latestOf}
+use Rattle.pack.specs.Kept.{latestOf}
 use Rattle.pack.specs.Sound.{soundOf}
 use Rattle.pack.specs.declared.Pack.{Pack}
 use Rattle.pack.specs.declared.Sample.{Sample}

@@ -24,7 +24,7 @@ pub record Side : Type 0 where
 
 -- ---- the answer
 
--- a read, by its command's row. 6: reserved command; 7: optional command not built; else what comes with the block or the word
+-- a read, by its command's row. 6: reserved command; 7: optional command not built; else what comes with the block or the word (RULES 1.6, 1.7)
 abbrev pub readAnswer : Side → ℕ → Kind → ℕ
 readAnswer d command Reserved = 6
 readAnswer d command Optional = 7
@@ -32,7 +32,7 @@ readAnswer d command Block = d .blockAnswer command
 readAnswer d command ReadOnly = d .wordAnswer command
 readAnswer d command ReadWrite = d .wordAnswer command
 
--- a write, by its command's row. 6: reserved command; 7: optional command not built; 8: write to a read-only command
+-- a write, by its command's row. 6: reserved command; 7: optional command not built; 8: write to a read-only command (RULES 1.6 to 1.8)
 abbrev pub writeAnswer : Kind → ℕ
 writeAnswer Reserved = 6
 writeAnswer Optional = 7
@@ -46,18 +46,18 @@ requestAnswer d (Refused answer) = answer
 requestAnswer d (Read command) = readAnswer d command (d .kinds command)
 requestAnswer d (Write command word checked) = writeAnswer (d .kinds command)
 
--- 1: state isn't sound; 2: lent reply room too short; then the request's: so the lowest number above 0 whose condition holds
+-- 1: state isn't sound; 2: lent reply room too short; then the request's: so the lowest number above 0 whose condition holds (RULES 2.1)
 unfoldable pub sideAnswer : Side → Request → ℕ → ℕ
 sideAnswer d request room =
     cond (not (d .sound)) 1
     (cond (ltb room (d .least)) 2
     (requestAnswer d request))
 
--- answers 0 and 10 are served; every other is a refusal
+-- answers 0 and 10 are served; every other is a refusal (RULES 2.2)
 abbrev pub served : ℕ → Bool
 served answer = eqb answer 0 || eqb answer 10
 
--- error code left, by the answer; after 1, 2 and 3 as it was
+-- error code left, by the answer; after 1, 2 and 3 as it was (RULES 2.6)
 unfoldable pub codeAfter : ℕ → ℕ → ℕ
 codeAfter answer before =
     cond (eqb answer 0) 0
@@ -80,7 +80,7 @@ readBody d command ReadWrite = wordBody (d .word command)
 readBody d command Optional = []
 readBody d command Reserved = []
 
--- only a served read has reply bytes
+-- only a served read has reply bytes (RULES 5.4)
 abbrev pub readReply : Side → List ℕ → ℕ → Kind → ℕ → List ℕ
 readReply d bytes command kind answer = cond (served answer) (replyOf bytes (readBody d command kind)) []
 

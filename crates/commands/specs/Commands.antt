@@ -10,7 +10,7 @@ use Rattle.commands.specs.declared.Kind.the-variants.{ReadWrite, ReadOnl
 abbrev pub from : ℕ → ℕ → ℕ → Bool
 from first last command = leb first command && leb command last
 
--- read and write: 00 to 04; read only: 05 to 1C and blocks 20 to 23; optional, not built: 2F, 3C to 3F; all others are reserved
+-- read and write: 00 to 04; read only: 05 to 1C and blocks 20 to 23; optional, not built: 2F, 3C to 3F; all others are reserved (RULES 5.7 to 5.10)
 unfoldable pub kindOf : ℕ → Kind
 kindOf command =
     cond (from 0x00 0x04 command) ReadWrite

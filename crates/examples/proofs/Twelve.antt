@@ -5,7 +5,7 @@ use Rattle.recent.specs.Recent.{averageOf, sumOf}
 use Rattle.examples.specs.Examples.{examples, AsExpected}
 use Rattle.gauge.specs.Word.{wordOf}
 use Rattle.key.specs.Key.{keyOf, hexWord}
-use Rattle.pack.specs.SetUp.{packOf}
+use Rattle.start.specs.SetUp.{packOf}
 use Rattle.pec.specs.Pec.{pecOf, pecFrom, byteStep, bitStep}
 use Rattle.registers.specs.Registers.{remainingCapacity}
 use Rattle.written.specs.Written.{hostWritten, packWritten}

@@ -11,7 +11,7 @@ use Rattle.recent.specs.Recent.{averageOf}
 use Rattle.clock.specs.Sample.{elapsedOf}
 use Rattle.gauge.specs.Word.{wordOf}
 use Rattle.key.specs.Key.{keyOf, dateWord}
-use Rattle.pack.specs.SetUp.{packOf}
+use Rattle.start.specs.SetUp.{packOf}
 use Rattle.pack.specs.declared.Pack.{Pack}
 use Rattle.pec.specs.Pec.{pecOf}
 use Rattle.written.specs.Written.{packWritten}
@@ -48,7 +48,7 @@ halfFull =
 abbrev after : ℕ → ℕ → ℕ → ℕ
 after to word command = wordOf (record { error = 0; pack = packWritten halfFull to word }) command
 
--- the table, in document 01's order and numbers
+-- the table, in document 01's order and numbers (RULES 4, 6, 7, 11)
 unfoldable pub examples : List Example
 examples =
     number (pecOf []) 0x00

@@ -1,4 +1,4 @@
--- Each read-word command 00 to 1C, its word and its answer.
+-- Document 01, Registers: each read-word command 00 to 1C, its word and its answer.
 -- Assumes nothing.
 use Prim.Native.Nat.{ℕ}
 use mathlib.Core.Bool.{cond, _&&_}
@@ -6,11 +6,12 @@ use lib.Dec.{eqb}
 use Rattle.recent.specs.Recent.{averageOf}
 use Rattle.registers.specs.Registers.{batteryMode, remainingCapacity, fullChargeCapacity, designCapacity, relativeStateOfCharge, absoluteStateOfCharge}
 use Rattle.times.specs.Times.{atRateTimeToEmpty, atRateTimeToFull, atRateOK, runTimeToEmpty, averageTimeToEmpty, averageTimeToFull}
-use Rattle.status.specs.Status.{batteryStatus, chargingCurrent}
+use Rattle.alarms.specs.Alarms.{chargingCurrent}
+use Rattle.status.specs.Status.{batteryStatus}
 use Rattle.gauge.specs.declared.Shown.{Shown}
 use Rattle.pack.specs.declared.State.{State}
 
--- the word of a command; 0 for a command that has none
+-- the word of a command; 0 for a command that has none (RULES 6.1 to 6.26)
 unfoldable pub wordOf : State → ℕ → ℕ
 wordOf s command =
     cond (eqb command 0x00) (s .pack .host .ManufacturerAccess)
@@ -44,7 +45,7 @@ wordOf s command =
     (cond (eqb command 0x1C) (s .pack .settings .SerialNumber)
     0))))))))))))))))))))))))))))
 
--- 10: AtRateTimeToFull in power mode; every other word read is answered 0
+-- 10: AtRateTimeToFull in power mode; every other word read is answered 0 (RULES 1.10)
 abbrev pub wordAnswer : State → ℕ → ℕ
 wordAnswer s command = cond (eqb command 0x05 && s .pack .host .CapacityMode) 10 0
 

@@ -58,7 +58,7 @@ fn word(s: State, command: u8) -> u16
         0x11 => times::run_time_to_empty(p),
         0x12 => times::average_time_to_empty(p),
         0x13 => times::average_time_to_full(p),
-        0x14 => status::charging_current(p),
+        0x14 => alarms::charging_current(p),
         0x15 => p.settings.ChargingVoltage,
         0x16 => status::battery_status(p, s.error),
         0x17 => p.tank.CycleCount,

@@ -4,7 +4,8 @@ use Prim.Native.Nat.{ℕ, _+_, _*_, _/_, _^_, _≤_, _<_}
 use mathlib.Core.Bool.{Bool, true, false}
 use mathlib.Core.Path.{_≡_}
 use native.Mathlib.Omega.{arith}
-use Rattle.status.specs.Status.{chargeFull, overTemp, terminateCharge, terminateDischarge, remainingCapacityLow, remainingTimeLow, discharging, statusBits, batteryStatus}
+use Rattle.alarms.specs.Alarms.{chargeFull, overTemp, terminateCharge, terminateDischarge, remainingCapacityLow, remainingTimeLow, discharging}
+use Rattle.status.specs.Status.{statusBits, batteryStatus}
 use Rattle.gauge_laws.specs.Promises.{digit, EachBit}
 use Rattle.pack.specs.declared.Pack.{Pack}
 use Rattle.registers.specs.Registers.{bit}

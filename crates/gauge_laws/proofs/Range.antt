@@ -5,7 +5,7 @@ use mathlib.Core.Bool.{Bool, cond}
 use native.Mathlib.Omega.{arith}
 use lib.Dec.{eqb}
 use Rattle.capacity.proofs.Bounds.{either, at-most, minutes-most}
-use Rattle.status.specs.Status.{terminateCharge}
+use Rattle.alarms.specs.Alarms.{terminateCharge}
 use Rattle.gauge.specs.Word.{wordOf}
 use Rattle.gauge_laws.proofs.Bits.{status-most}
 use Rattle.gauge_laws.specs.Promises.{WordsBelow}

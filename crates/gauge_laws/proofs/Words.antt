@@ -5,15 +5,16 @@ use mathlib.Core.Bool.{Bool, true, false, cond}
 use mathlib.Core.Path.{_≡_, refl, ap, _∙_, sym, subst}
 use native.Mathlib.Omega.{arith}
 use borrow.Author.Tests.{ne-eqb}
-use Rattle.status.specs.Status.{terminateCharge, statusBits}
+use Rattle.alarms.specs.Alarms.{terminateCharge}
+use Rattle.status.specs.Status.{statusBits}
 use Rattle.gauge.specs.Word.{wordOf}
 use Rattle.gauge_laws.proofs.Bits.{above-code, bits-stand}
 use Rattle.gauge_laws.specs.Promises.{digit, Initially, InitialWords, AlwaysInitialized, CutOff, RemainingAtMostFull}
 use Rattle.pack.proofs.Soundness.{parts, pack-of-sound}
-use Rattle.pack.specs.SetUp.{setUpOf, setUpRefused, packOf, zeroState}
+use Rattle.start.specs.SetUp.{setUpOf, setUpRefused, packOf, zeroState}
 use Rattle.pack.specs.declared.Sample.{Sample}
-use Rattle.pack.specs.declared.Setup.{Setup}
-use Rattle.pack.specs.declared.Started.{Started}
+use Rattle.start.specs.declared.Setup.{Setup}
+use Rattle.start.specs.declared.Started.{Started}
 use Rattle.pack.specs.declared.State.{State}
 use Rattle.registers.proofs.Laws.{remaining-at-most-full}
 use Rattle.registers.specs.Registers.{designCapacity}

@@ -3,14 +3,15 @@
 use Prim.Native.Nat.{ℕ, _/_, _%_, _^_, _≤_, _<_}
 use mathlib.Core.Bool.{Bool, true, cond}
 use mathlib.Core.Path.{_≡_}
-use Rattle.status.specs.Status.{chargeFull, overTemp, overCharged, terminateCharge, terminateDischarge, remainingCapacityLow, remainingTimeLow, discharging, batteryStatus}
+use Rattle.alarms.specs.Alarms.{chargeFull, overTemp, overCharged, terminateCharge, terminateDischarge, remainingCapacityLow, remainingTimeLow, discharging}
+use Rattle.status.specs.Status.{batteryStatus}
 use Rattle.gauge.specs.Word.{wordOf}
 use Rattle.pack.specs.Fits.{PackFits}
-use Rattle.pack.specs.SetUp.{setUpOf}
+use Rattle.start.specs.SetUp.{setUpOf}
 use Rattle.pack.specs.Sound.{soundOf}
 use Rattle.pack.specs.declared.Pack.{Pack}
 use Rattle.pack.specs.declared.Sample.{Sample}
-use Rattle.pack.specs.declared.Setup.{Setup}
+use Rattle.start.specs.declared.Setup.{Setup}
 use Rattle.pack.specs.declared.State.{State}
 
 -- bit k of a word

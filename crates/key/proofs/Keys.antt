@@ -3,19 +3,18 @@ use mathlib.Core.Path.{_≡_, refl, sym, ap, _∙_, subst}
 use mathlib.Core.Bool.{Bool, true, false, cond, _&&_, and-eq-true-iff}
 use mathlib.Core.List.{List, [], _∷_, _++_, append-assoc}
 use mathlib.Core.Option.{Option, none, some}
-use Prim.Native.Nat.{ℕ, _+_, _-_, _≤_, _<_}
+use Prim.Native.Nat.{ℕ, _+_, _-_, _≤_}
 use native.Mathlib.Omega.{arith}
 use lib.Dec.{leb}
 use lib.ListN.{length, take, drop, length-append}
 use lib.Seq.{drop-drop, drop-at, take-append-seam}
 use borrow.Author.Tests.{le-leb, leb-true}
+use Rattle.rooms.specs.Rooms.{between}
 use Rattle.names.specs.Names.{escape, Name, bad, ended, stopped, readPlain}
-use Rattle.names.proofs.Escaping.{escape-length}
 use Rattle.names.proofs.Reading.{Is, plain-is}
 use Rattle.names.proofs.Strokes.{Named, Unnamed}
 use Rattle.key.specs.declared.Found.{Found}
-use Rattle.key.specs.Key.{hexWord, keyOf, keyOfParts, Parts, PartsFit, afterMaker, afterDevice, readKey, readOf, isWords, digitsWord}
-use Rattle.key.specs.Steps.{foundOf, Names}
+use Rattle.key.specs.Key.{hexWord, keyOf, keyOfParts, Parts, PartsFit, afterMaker, afterDevice, readKey, readOf, foundOf, makerOf, deviceOf, deviceStart, isWords, digitsWord}
 use Rattle.key.proofs.Form.{key-length}
 use Rattle.key.proofs.Words.{words-sound, word-below, tail-of}
 
@@ -98,30 +97,20 @@ pub key-given : (k : List ℕ) (p : Parts) → readKey k ≡ some p → PartsFit
 unfolding readKey
 key-given k p e = given-maker k p (readPlain k) (plain-is k) e
 
--- no key has over 139 bytes
-pub long-no-key : (k : List ℕ) → 139 < length k → readKey k ≡ none
-long-no-key k h = go (readKey k) refl
-  where
-    go : (o : Option Parts) → readKey k ≡ o → readKey k ≡ none
-    go none e = e
-    go (some p) e =
-        let g = key-given k p e in
-        absurd
-        (omega (
-          arith,
-          h,
-          ap length (g .1),
-          key-length (p .maker) (p .device) (p .date) (p .serial),
-          escape-length (p .maker),
-          escape-length (p .device),
-          g .0,
-        ))
-
 -- ---- what is shown
 
 pub read-found : (o : Option Parts) {f : Found} → f ≡ foundOf o → record { answer = f .answer; date = f .date; serial = f .serial } ≡ readOf o
 read-found none e = rw e
 read-found (some p) e = rw e
+
+-- what stands at the places found in the bytes k, which are read as o: both names
+pub record Names (k : List ℕ) (f : Found) (o : Option Parts) : Type 0 where
+  pub maker-is : between k 0 (f .«maker_end») ≡ makerOf o
+  pub maker-ends : f .«maker_end» ≤ f .«device_start»
+  pub device-starts : f .«device_start» ≡ deviceStart o
+  pub device-is : between k (f .«device_start») (f .«device_end») ≡ deviceOf o
+  pub device-ends : f .«device_start» ≤ f .«device_end»
+  pub within : f .«device_end» ≤ length k
 
 names-of : (k : List ℕ) (o : Option Parts) → readKey k ≡ o → Names k (foundOf o) o
 unfolding keyOf

@@ -6,9 +6,8 @@ ghost use Prim.Native.Nat.{_+_, _≤_};
 ghost use mathlib.Core.Option.{none};
 ghost use lib.ListN.{length, drop};
 ghost use denote.Ref.{ptr};
-ghost use Rattle.key.specs.Key.{digitValue, isWord, digitsWord, isWords, readKey, readOf, makerOf, deviceOf, deviceStart};
+ghost use Rattle.key.specs.Key.{digitValue, isWord, digitsWord, isWords, readKey, readOf, foundOf, makerOf, deviceOf, deviceStart};
 ghost use Rattle.rooms.specs.Rooms.{further};
-ghost use Rattle.key.specs.Steps.{foundOf, Names};
 
 // An answer number, and the words of a key.
 pub struct Read {
@@ -17,14 +16,14 @@ pub struct Read {
     pub serial: u16,
 }
 
-// What a reader of keys finds: the words, and where the names stand.
-struct Found {
-    answer: u8,
-    maker_end: usize,
-    device_start: usize,
-    device_end: usize,
-    date: u16,
-    serial: u16,
+// An answer number, the words of a key, and where its names stand.
+pub struct Found {
+    pub answer: u8,
+    pub maker_end: usize,
+    pub device_start: usize,
+    pub device_end: usize,
+    pub date: u16,
+    pub serial: u16,
 }
 
 // The number that a lower-case hexadecimal digit stands for, and 16 for any other byte.
@@ -88,18 +87,8 @@ fn no_key() -> Found
     }
 }
 
-// The words of a key, and where its names stand. No key has over 139 bytes: so reading calls itself a few hundred times at most.
-fn find(key: &[u8]) -> Found
-    ensures { λ r. ⌜ r ≡ foundOf (readKey (now (key .entry))) ⌝ }
-    ensures { λ r. ⌜ Names (now (key .entry)) r (readKey (now (key .entry))) ⌝ }
-{
-    if 139 < key.len() {
-        return no_key();
-    }
-    seek(key)
-}
-
-fn seek(key: &[u8]) -> Found
+// The words of a key, and where its names stand, still escaped. Answer 13: the bytes aren't a key.
+pub fn find(key: &[u8]) -> Found
     ensures { λ r. ⌜ r ≡ foundOf (readKey (now (key .entry))) ⌝ }
 {
     let a = stroke(key, 0);

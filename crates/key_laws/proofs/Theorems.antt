@@ -1,20 +1,22 @@
 -- The theorems on pack keys. Assumes nothing.
 use mathlib.Core.Path.{_≡_, refl, sym, ap, _∙_, subst}
-use mathlib.Core.Bool.{Bool, true, false}
+use mathlib.Core.Bool.{Bool, true, false, cond}
 use mathlib.Core.List.{List, [], _∷_, _++_}
 use mathlib.Core.Option.{Option, none, some}
 use Prim.Native.Nat.{ℕ, _≤_}
 use native.Mathlib.Omega.{arith}
+use lib.Dec.{leb}
 use lib.ListN.{length}
-use borrow.Author.Tests.{le-ltb}
+use borrow.Author.Tests.{le-leb, leb-true}
 use Rattle.rooms.specs.Rooms.{Bytes}
-use Rattle.names.specs.Names.{escape, unescaped, nameIn}
-use Rattle.key.specs.Key.{hexWord, keyOf, keyOfParts, Parts, IsKey, isWords, readKey, readOf, makerOf, deviceOf, deviceStart}
+use Rattle.names.specs.Names.{escape, unescaped, ofKey, nameIn}
+use Rattle.key.specs.Key.{hexWord, keyOf, keyOfParts, Parts, PartsFit, IsKey, isWords, readKey, readOf, makerOf, deviceOf, deviceStart}
 use Rattle.names.proofs.Escaping.{escape-length}
 use Rattle.key.proofs.Form.{key-length}
 use Rattle.names.proofs.Reading.{read-ended}
+use Rattle.names.proofs.Unescaping.{unescaped-is}
 use Rattle.key.proofs.Keys.{key-given}
-use Rattle.key_laws.specs.Laws.{UnescapeEscape, ServedIsKey, NotKey, IsKeyWritten, NamesAreBytes, SameKey, NoKeyBeginsAnother, ReadWritten, NamesBack, dashed, DashMerges, KeysDiffer, KeyAtMost139, allEscaped, SomeKeyOf139}
+use Rattle.key_laws.specs.Laws.{UnescapeEscape, ServedIsKey, NotKey, IsKeyWritten, NamesAreBytes, SameKey, NoKeyBeginsAnother, ReadWritten, NamesBack, NameExactly, NoneExactly, dashed, DashMerges, KeysDiffer, KeyAtMost139, allEscaped, SomeKeyOf139}
 use Rattle.key_laws.proofs.Served.{gives, is-given, bytes-append, bytes-plain}
 use Rattle.key_laws.proofs.Complete.{wordsOf, words-no, read-names, read-back}
 
@@ -87,14 +89,51 @@ no-key-begins-another k s i j = none-left s (go (isWords (wordsOf (p .date) (p .
 pub read-written : ReadWritten
 read-written p f = let e = read-back p f in (ap readOf e, ap makerOf e, ap deviceOf e, ap deviceStart e)
 
--- the part that a name of up to 32 bytes is shown as stands for that name
-name-in : (name : List ℕ) → length name ≤ 32 → nameIn (escape name) ≡ some name
+-- a part stands for a name exactly when that has up to 32 bytes and the part is what it is escaped to
+pub name-exactly : NameExactly
 unfolding nameIn
-name-in name h = simp (le-ltb 64 (length (escape name)) (omega (arith, escape-length name))) (unescape-escape name)
+name-exactly part name = (λ e. go (unescaped part) refl e, λ (l, e). rw (e, unescape-escape name, le-leb (length name) 32 l))
+  where
+    short : (m : List ℕ) → unescaped part ≡ some m → (t : Bool) → leb (length m) 32 ≡ t → cond t (some m) none ≡ some name → (length name ≤ 32) × (part ≡ escape name)
+    short m f true g e =
+        let same : m ≡ name = cc in
+        (leb-true _ _ (ap (λ (l : List ℕ). leb (length l) 32) (sym same) ∙ g), unescaped-is part m f ∙ ap escape same)
+    short m f false g e = let z : _≡_ {A = ℕ} 0 1 = cc in absurd (omega arith)
+
+    go : (o : Option (List ℕ)) → unescaped part ≡ o → ofKey o ≡ some name → (length name ≤ 32) × (part ≡ escape name)
+    go none f e = let z : _≡_ {A = ℕ} 0 1 = cc in absurd (omega arith)
+    go (some m) f e = short m f (leb (length m) 32) refl e
+
+name-in : (name : List ℕ) → length name ≤ 32 → nameIn (escape name) ≡ some name
+name-in name h = name-exactly (escape name) name .1 (h, refl)
 
 -- and a reader of keys gets the very names that were put in
 pub names-back : NamesBack
 names-back p f = let e = read-back p f in (rw e (name-in (p .maker) (f .maker-fits)), rw e (name-in (p .device) (f .device-fits)))
+
+-- a part stands for none exactly when no key shows it
+pub none-exactly : NoneExactly
+none-exactly part = (λ e k i. (λ f. made (i .parts .maker) (i .fit .maker-fits) (shown-maker k i ∙ f) e, λ f. made (i .parts .device) (i .fit .device-fits) (shown-device k i ∙ f) e), λ h. go h (nameIn part) refl)
+  where
+    shown-maker : (k : List ℕ) (i : IsKey k) → escape (i .parts .maker) ≡ makerOf (readKey k)
+    shown-maker k i = sym (ap (λ (l : List ℕ). makerOf (readKey l)) (i .given) ∙ read-written (i .parts) (i .fit) .1)
+
+    shown-device : (k : List ℕ) (i : IsKey k) → escape (i .parts .device) ≡ deviceOf (readKey k)
+    shown-device k i = sym (ap (λ (l : List ℕ). deviceOf (readKey l)) (i .given) ∙ read-written (i .parts) (i .fit) .2)
+
+    made : (name : List ℕ) → length name ≤ 32 → escape name ≡ part → nameIn part ≡ none → ⊥
+    made name l f e =
+        let y : nameIn part ≡ some name = name-exactly part name .1 (l, sym f) in
+        let z : _≡_ {A = ℕ} 0 1 = cc in
+        omega arith
+
+    go : ((k : List ℕ) → IsKey k → (makerOf (readKey k) ≡ part → ⊥) × (deviceOf (readKey k) ≡ part → ⊥)) → (o : Option (List ℕ)) → nameIn part ≡ o → nameIn part ≡ none
+    go h none e = e
+    go h (some name) e =
+        let n = name-exactly part name .0 e in
+        let p : Parts = record { maker = name; device = []; date = 0; serial = 0 } in
+        let f : PartsFit p = record { maker-fits = n .0; device-fits = omega arith; date-fits = omega arith; serial-fits = omega arith } in
+        absurd (h (keyOfParts p) (record { parts = p; fit = f; given = refl }) .0 (read-written p f .1 ∙ sym (n .1)))
 
 -- ---- 6: joined with a dash two packs merge, and here they have two keys
 

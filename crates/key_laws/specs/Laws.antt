@@ -2,7 +2,7 @@
 use mathlib.Core.Path.{_≡_}
 use mathlib.Core.Logic.{_↔_}
 use mathlib.Core.List.{List, [], _∷_, _++_}
-use mathlib.Core.Option.{some}
+use mathlib.Core.Option.{none, some}
 use Prim.Native.Nat.{ℕ, _+_, _≤_, _<_}
 use lib.ListN.{length, take, replicate}
 use Rattle.rooms.specs.Rooms.{Bytes}
@@ -63,6 +63,14 @@ abbrev pub NamesBack : Type 0
 NamesBack =
     (p : Parts) → PartsFit p
     → (nameIn (makerOf (readKey (keyOfParts p))) ≡ some (p .maker)) × (nameIn (deviceOf (readKey (keyOfParts p))) ≡ some (p .device))
+
+-- a part stands for a name exactly when that has up to 32 bytes and the part is what it is escaped to
+abbrev pub NameExactly : Type 0
+NameExactly = (part name : List ℕ) → (nameIn part ≡ some name) ↔ ((length name ≤ 32) × (part ≡ escape name))
+
+-- and for none exactly when no key shows it, as its maker or as its device name
+abbrev pub NoneExactly : Type 0
+NoneExactly = (part : List ℕ) → (nameIn part ≡ none) ↔ ((k : List ℕ) → IsKey k → (makerOf (readKey k) ≡ part → ⊥) × (deviceOf (readKey k) ≡ part → ⊥))
 
 -- the parts joined with a dash, as they once were
 unfoldable pub dashed : Parts → List ℕ

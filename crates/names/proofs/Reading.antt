@@ -1,62 +1,82 @@
 -- The laws of reading names: what plain reading and the escape rule find, byte by byte, and what that says of the bytes. Assumes nothing.
 use mathlib.Core.Path.{_≡_, refl, sym, ap, _∙_, subst}
-use mathlib.Core.Bool.{Bool, true, false}
+use mathlib.Core.Bool.{Bool, true, false, cond}
 use mathlib.Core.List.{List, [], _∷_, _++_, append-assoc, append-nil}
 use Prim.Native.Nat.{ℕ, suc, _+_, _-_, _≤_, _<_}
 use native.Mathlib.Nat.{add-zero}
 use native.Mathlib.Numerals.{add-one}
 use native.Mathlib.Omega.{arith}
-use lib.Dec.{eqb}
+use lib.Dec.{eqb, leb}
 use lib.ListN.{length, drop, getD, length-append, drop-of-length-le}
 use lib.Seq.{drop-cons}
-use borrow.Author.Tests.{eqb-true, ne-eqb}
-use Rattle.names.specs.declared.Scan.{Scan}
-use Rattle.names.specs.declared.Scan.the-variants.{Refused, End, Stroke}
+use borrow.Author.Tests.{eqb-true, ne-eqb, le-leb, lt-leb}
 use Rattle.names.specs.Names.{marked, escapeByte, escape, Name, bad, ended, stopped, push, readPlain, readEscaped}
-use Rattle.names.specs.Steps.{scannedAt}
+use Rattle.names.specs.Steps.{numberOf}
 
 -- ---- a byte at a time
 
 -- one byte more in front moves the place by the bytes it has in the key
-scanned-push : (b : ℕ) (r : Name) (at n : ℕ) → scannedAt r (at + length (escapeByte b)) (n + 1) ≡ scannedAt (push b r) at n
-scanned-push b bad at n = refl
-scanned-push b (ended name) at n =
+number-push : (b : ℕ) (r : Name) (at n last : ℕ) → numberOf r (at + length (escapeByte b)) (n + 1) last ≡ numberOf (push b r) at n last
+number-push b bad at n last = refl
+number-push b (ended name) at n last =
     let z : n + 1 + length name ≡ n + suc (length name) = omega arith in
-    ap End z
-scanned-push b (stopped name rest) at n =
+    ap (λ (i : ℕ). cond (leb i 32) (last + 1 + i) last) z
+number-push b (stopped name rest) at n last =
     let z : n + 1 + length name ≡ n + suc (length name) = omega arith in
     let y : at + length (escapeByte b) + length (escape name) ≡ at + length (escapeByte b ++ escape name) = omega (arith, length-append (escapeByte b) (escape name)) in
-    ap (λ (i : ℕ). Stroke i (n + 1 + length name)) y ∙ ap (λ (i : ℕ). Stroke (at + length (escapeByte b ++ escape name)) i) z
+    ap (λ (i : ℕ). cond (leb (n + 1 + length name) 32) i last) y ∙ ap (λ (i : ℕ). cond (leb i 32) (at + length (escapeByte b ++ escape name)) last) z
+
+-- after 32 bytes one byte more is refused
+module _ (at n last : ℕ) (h : 32 ≤ n) where
+  number-over : (b : ℕ) (r : Name) → last ≡ numberOf (push b r) at n last
+  number-over b bad = refl
+  number-over b (ended name) = rw (lt-leb (n + suc (length name)) 32 (omega arith))
+  number-over b (stopped name rest) = rw (lt-leb (n + suc (length name)) 32 (omega arith))
+
+  handed-over : (b : ℕ) (s : List ℕ) (p : Bool) → last ≡ numberOf (cond p (push b (readPlain s)) bad) at n last
+  handed-over b s true = number-over b (readPlain s)
+  handed-over b s false = refl
+
+  escaped-over : (s : List ℕ) → last ≡ numberOf (readEscaped s) at n last
+  escaped-over [] = refl
+  escaped-over (b ∷ s) = handed-over b s (marked b)
+
+  plain-over : (b : ℕ) (s : List ℕ) (p : Bool) → last ≡ numberOf (cond p (readEscaped s) (push b (readPlain s))) at n last
+  plain-over b s true = escaped-over s
+  plain-over b s false = number-over b (readPlain s)
 
 module _ (k : List ℕ) (at n : ℕ) (h : at < length k) where
-  pub at-stroke : getD k at 0 ≡ 0x2F → Stroke at n ≡ scannedAt (readPlain (drop at k)) at n
-  at-stroke e = rw (drop-cons k at 0 h, e) (rw (add-zero at, add-zero n))
+  pub at-stroke : n ≤ 32 → getD k at 0 ≡ 0x2F → at ≡ numberOf (readPlain (drop at k)) at n (length k)
+  at-stroke l e = rw (drop-cons k at 0 h, e) (rw (add-zero n, le-leb n 32 l, add-zero at))
 
-  pub at-mark : getD k at 0 ≡ 0x5C → {r : Scan} → r ≡ scannedAt (readEscaped (drop (at + 1) k)) (at + 1 - 1) n → r ≡ scannedAt (readPlain (drop at k)) at n
+  pub at-over : 32 ≤ n → (getD k at 0 ≡ 0x2F → ⊥) → length k ≡ numberOf (readPlain (drop at k)) at n (length k)
+  at-over l x = rw (drop-cons k at 0 h, ne-eqb _ 0x2F x) (plain-over at n (length k) l (getD k at 0) (drop (suc at) k) (eqb (getD k at 0) 0x5C))
+
+  pub at-mark : (getD k at 0 ≡ 0x5C) → {r : ℕ} → r ≡ numberOf (readEscaped (drop (at + 1) k)) (at + 1 - 1) n (length k) → r ≡ numberOf (readPlain (drop at k)) at n (length k)
   at-mark e hr =
       let z : at + 1 - 1 ≡ at = omega arith in
-      rw (drop-cons k at 0 h, e) (hr ∙ ap (λ (i : ℕ). scannedAt (readEscaped (drop i k)) (at + 1 - 1) n) (add-one at) ∙ ap (λ (i : ℕ). scannedAt (readEscaped (drop (suc at) k)) i n) z)
+      rw (drop-cons k at 0 h, e) (hr ∙ ap (λ (i : ℕ). numberOf (readEscaped (drop i k)) (at + 1 - 1) n (length k)) (add-one at) ∙ ap (λ (i : ℕ). numberOf (readEscaped (drop (suc at) k)) i n (length k)) z)
 
-  pub at-other : (getD k at 0 ≡ 0x2F → ⊥) → (getD k at 0 ≡ 0x5C → ⊥) → {r : Scan} → r ≡ scannedAt (readPlain (drop (at + 1) k)) (at + 1) (n + 1) → r ≡ scannedAt (readPlain (drop at k)) at n
+  pub at-other : (getD k at 0 ≡ 0x2F → ⊥) → (getD k at 0 ≡ 0x5C → ⊥) → {r : ℕ} → r ≡ numberOf (readPlain (drop (at + 1) k)) (at + 1) (n + 1) (length k) → r ≡ numberOf (readPlain (drop at k)) at n (length k)
   at-other x y hr =
       let one : length (escapeByte (getD k at 0)) ≡ 1 = simp (ne-eqb _ 0x2F x, ne-eqb _ 0x5C y) in
       rw (drop-cons k at 0 h, ne-eqb _ 0x2F x, ne-eqb _ 0x5C y)
-      (hr ∙ ap (λ (i : ℕ). scannedAt (readPlain (drop i k)) (at + 1) (n + 1)) (add-one at) ∙ rw one at (scanned-push (getD k at 0) (readPlain (drop (suc at) k)) at n))
+      (hr ∙ ap (λ (i : ℕ). numberOf (readPlain (drop i k)) (at + 1) (n + 1) (length k)) (add-one at) ∙ rw one at (number-push (getD k at 0) (readPlain (drop (suc at) k)) at n (length k)))
 
-  pub esc-marked : marked (getD k at 0) ≡ true → n < at → {r : Scan} → r ≡ scannedAt (readPlain (drop (at + 1) k)) (at + 1) (n + 1) → r ≡ scannedAt (readEscaped (drop at k)) (at - 1) n
+  pub esc-marked : marked (getD k at 0) ≡ true → 0 < at → {r : ℕ} → r ≡ numberOf (readPlain (drop (at + 1) k)) (at + 1) (n + 1) (length k) → r ≡ numberOf (readEscaped (drop at k)) (at - 1) n (length k)
   esc-marked m l hr =
       let z : at + 1 ≡ at - 1 + 2 = omega arith in
       rw (drop-cons k at 0 h, m)
-      (hr ∙ ap (λ (i : ℕ). scannedAt (readPlain (drop i k)) (at + 1) (n + 1)) (add-one at) ∙ ap (λ (i : ℕ). scannedAt (readPlain (drop (suc at) k)) i (n + 1)) z
-      ∙ rw m at (scanned-push (getD k at 0) (readPlain (drop (suc at) k)) (at - 1) n))
+      (hr ∙ ap (λ (i : ℕ). numberOf (readPlain (drop i k)) (at + 1) (n + 1) (length k)) (add-one at) ∙ ap (λ (i : ℕ). numberOf (readPlain (drop (suc at) k)) i (n + 1) (length k)) z
+      ∙ rw m at (number-push (getD k at 0) (readPlain (drop (suc at) k)) (at - 1) n (length k)))
 
-  pub esc-other : marked (getD k at 0) ≡ false → Refused ≡ scannedAt (readEscaped (drop at k)) (at - 1) n
+  pub esc-other : marked (getD k at 0) ≡ false → length k ≡ numberOf (readEscaped (drop at k)) (at - 1) n (length k)
   esc-other m = rw (drop-cons k at 0 h, m)
 
-pub at-end : (k : List ℕ) (at n : ℕ) → length k ≤ at → End n ≡ scannedAt (readPlain (drop at k)) at n
-at-end k at n h = rw (drop-of-length-le k h) (rw (add-zero n))
+pub at-end : (k : List ℕ) (at n : ℕ) → n ≤ 32 → length k ≤ at → length k + 1 + n ≡ numberOf (readPlain (drop at k)) at n (length k)
+at-end k at n l h = rw (drop-of-length-le k h) (rw (add-zero n, le-leb n 32 l))
 
-pub esc-end : (k : List ℕ) (at n : ℕ) → length k ≤ at → Refused ≡ scannedAt (readEscaped (drop at k)) (at - 1) n
+pub esc-end : (k : List ℕ) (at n : ℕ) → length k ≤ at → length k ≡ numberOf (readEscaped (drop at k)) (at - 1) n (length k)
 esc-end k at n h = rw (drop-of-length-le k h)
 
 -- ---- what is read says what the bytes are

@@ -3,19 +3,18 @@ use mathlib.Core.Path.{_≡_, refl, sym, ap, _∙_}
 use mathlib.Core.Bool.{Bool, true, false, cond}
 use mathlib.Mathlib.Data.Bool.Basic.{or-eq-false-eq-eq-false-and-eq-false}
 use mathlib.Core.List.{List, _∷_, _++_}
-use mathlib.Core.Option.{some}
-use Prim.Native.Nat.{ℕ, suc, _+_, _≤_, _<_}
+use mathlib.Core.Option.{none, some}
+use Prim.Native.Nat.{ℕ, suc, _+_, _-_, _≤_, _<_}
 use native.Mathlib.Nat.{add-zero, zero-add}
 use native.Mathlib.Omega.{arith}
-use lib.Dec.{eqb}
+use lib.Dec.{eqb, leb}
 use lib.ListN.{length, take, drop, getD, set, length-append, take-append-drop}
 use lib.Seq.{sets, drop-cons, getD-append-add}
 use borrow.Author.Tests.{le-ltb, lt-ltb}
-use Rattle.rooms.specs.declared.Wrote.{Wrote}
 use Rattle.rooms.specs.Rooms.{wrote}
 use Rattle.rooms.proofs.Rooms.{one-more, front}
-use Rattle.names.specs.Names.{marked, escapeByte, escape, Name, bad, ended, stopped, readPlain, whole, unescaped, plainWrote, plainRoom}
-use Rattle.names.specs.Steps.{scannedAt, countOf, plainOf, pastMark}
+use Rattle.names.specs.Names.{marked, escapeByte, escape, Name, bad, ended, stopped, readPlain, whole, unescaped, ofKey, nameIn, plainWrote, plainRoom}
+use Rattle.names.specs.Steps.{numberOf, plainOf, pastMark}
 use Rattle.names.proofs.Escaping.{escape-append, escape-snoc}
 use Rattle.names.proofs.Reading.{Is, plain-is}
 
@@ -73,41 +72,51 @@ plain-laid name l₀ o {l} h e eb = ap (set l o) eb ∙ ap (λ (i : ℕ). set l 
 
 -- ---- answers
 
-pub plain-none : (part : List ℕ) (w : Wrote) (room : List ℕ) → w ≡ countOf (scannedAt (readPlain part) 0 0) → w .answer ≡ 13
-    → (w ≡ plainWrote (unescaped part) room) × (room ≡ plainRoom (unescaped part) room)
-unfolding unescaped
-plain-none part w room = go (readPlain part)
-  where
-    go : (r : Name) → w ≡ countOf (scannedAt r 0 0) → w .answer ≡ 13 → (w ≡ plainWrote (whole r) room) × (room ≡ plainRoom (whole r) room)
-    go bad e h = (e, refl)
-    go (ended name) e h = let z : _≡_ {A = ℕ} 0 13 = rw e at h in absurd (omega arith)
-    go (stopped name rest) e h = (e, refl)
-
--- what an answer other than 13 says
-pub record Plain (part : List ℕ) (w : Wrote) : Type 0 where
+-- what a number above the length says: the part stands for a name of that many bytes
+pub record Plain (part : List ℕ) (n : ℕ) : Type 0 where
   pub is : part ≡ escape (plainOf part)
-  pub name : unescaped part ≡ some (plainOf part)
-  pub count : w .length ≡ length (plainOf part)
-  pub told : w ≡ wrote 0 (length (plainOf part))
+  pub name : nameIn part ≡ some (plainOf part)
+  pub count : n ≡ length (plainOf part)
 
-pub plain-some : (part : List ℕ) (w : Wrote) → w ≡ countOf (scannedAt (readPlain part) 0 0) → (w .answer ≡ 13 → ⊥) → Plain part w
-unfolding unescaped
-plain-some part w e h = go (readPlain part) (plain-is part) refl e
-  where
-    go : (r : Name) → Is part r → readPlain part ≡ r → w ≡ countOf (scannedAt r 0 0) → Plain part w
-    go bad i f g = absurd (h (ap (λ (v : Wrote). v .answer) g))
-    go (ended name) i f g =
-        let t : w ≡ wrote 0 (length name) = g ∙ ap (wrote 0) (zero-add (length name)) in
-        record { is = rw f i; name = rw f; count = rw f (ap (λ (v : Wrote). v .length) t); told = rw f t }
-    go (stopped name rest) i f g = absurd (h (ap (λ (v : Wrote). v .answer) g))
+module _ (part : List ℕ) (number : ℕ) (told : number ≡ numberOf (readPlain part) 0 0 (length part)) where
+  pub plain-none : (room : List ℕ) → number ≤ length part → (wrote 13 0 ≡ plainWrote (nameIn part) room) × (room ≡ plainRoom (nameIn part) room)
+  unfolding nameIn unescaped
+  plain-none room h = go (readPlain part) told
+    where
+      short : (name : List ℕ) (p : Bool) → number ≡ cond p (length part + 1 + length name) (length part)
+          → (wrote 13 0 ≡ plainWrote (cond p (some name) none) room) × (room ≡ plainRoom (cond p (some name) none) room)
+      short name true e = absurd (omega arith)
+      short name false e = (refl, refl)
 
-pub plain-long : (part room : List ℕ) {w : Wrote} → Plain part w → length room < w .length → (wrote 12 0 ≡ plainWrote (unescaped part) room) × (room ≡ plainRoom (unescaped part) room)
-plain-long part room p h =
-    let l : length room < length (plainOf part) = omega (arith, p .count) in
-    (rw (p .name, lt-ltb _ _ l), rw (p .name, lt-ltb _ _ l))
+      go : (r : Name) → number ≡ numberOf r 0 0 (length part) → (wrote 13 0 ≡ plainWrote (ofKey (whole r)) room) × (room ≡ plainRoom (ofKey (whole r)) room)
+      go bad e = (refl, refl)
+      go (ended name) e = short name (leb (length name) 32) (rw zero-add at e)
+      go (stopped name rest) e = (refl, refl)
 
-pub plain-wrote : (part room : List ℕ) {w : Wrote} {l : List ℕ} → Plain part w → w .length ≤ length room → l ≡ sets room 0 (plainOf part)
-    → (w ≡ plainWrote (unescaped part) room) × (l ≡ plainRoom (unescaped part) room)
-plain-wrote part room p h el =
-    let f : length (plainOf part) ≤ length room = omega (arith, p .count) in
-    (rw (p .name, le-ltb _ _ f) (p .told), rw (p .name, le-ltb _ _ f) (el ∙ front (plainOf part) room f))
+  pub plain-some : length part < number → Plain part (number - length part - 1)
+  unfolding nameIn unescaped
+  plain-some h = go (readPlain part) (plain-is part) refl told
+    where
+      short : (name : List ℕ) → part ≡ escape name → readPlain part ≡ ended name → (p : Bool) → leb (length name) 32 ≡ p → number ≡ cond p (length part + 1 + length name) (length part) → Plain part (number - length part - 1)
+      short name i f true g e = record { is = rw f i; name = rw (f, g); count = rw f (omega arith) }
+      short name i f false g e = absurd (omega arith)
+
+      within : (name rest : List ℕ) → part ≡ escape name ++ (0x2F ∷ rest) → (p : Bool) → number ≡ cond p (0 + length (escape name)) (length part) → number ≤ length part
+      within name rest i true e = omega (arith, simp length-append at (ap length i))
+      within name rest i false e = omega arith
+
+      go : (r : Name) → Is part r → readPlain part ≡ r → number ≡ numberOf r 0 0 (length part) → Plain part (number - length part - 1)
+      go bad i f e = absurd (omega arith)
+      go (ended name) i f e = short name i f (leb (length name) 32) refl (rw zero-add at e)
+      go (stopped name rest) i f e = absurd (omega (arith, within name rest i (leb (0 + length name) 32) e))
+
+module _ (part room : List ℕ) {n : ℕ} (p : Plain part n) where
+  pub plain-long : length room < n → (wrote 12 0 ≡ plainWrote (nameIn part) room) × (room ≡ plainRoom (nameIn part) room)
+  plain-long h =
+      let l : length room < length (plainOf part) = omega (arith, p .count) in
+      (rw (p .name, lt-ltb _ _ l), rw (p .name, lt-ltb _ _ l))
+
+  pub plain-wrote : {l : List ℕ} → n ≤ length room → l ≡ sets room 0 (plainOf part) → (wrote 0 n ≡ plainWrote (nameIn part) room) × (l ≡ plainRoom (nameIn part) room)
+  plain-wrote h el =
+      let f : length (plainOf part) ≤ length room = omega (arith, p .count) in
+      (rw (p .name, le-ltb _ _ f) (ap (wrote 0) (p .count)), rw (p .name, le-ltb _ _ f) (el ∙ front (plainOf part) room f))

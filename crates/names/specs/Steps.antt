@@ -5,29 +5,22 @@ use mathlib.Core.Option.{Option·getD}
 use Prim.Native.Nat.{ℕ, _+_}
 use lib.Dec.{eqb, leb}
 use lib.ListN.{length, getD}
-use Rattle.names.specs.declared.Scan.{Scan}
-use Rattle.names.specs.declared.Scan.the-variants.{Refused, End, Stroke}
-use Rattle.rooms.specs.declared.Wrote.{Wrote}
-use Rattle.rooms.specs.Rooms.{wrote}
 use Rattle.names.specs.Names.{Name, bad, ended, stopped, escape, unescaped}
 
--- a name that is read from the place `at` on, after n bytes of it: where its 2F stands, and its bytes counted
-abbrev pub scannedAt : Name → ℕ → ℕ → Scan
-scannedAt bad at n = Refused
-scannedAt (ended name) at n = End (n + length name)
-scannedAt (stopped name rest) at n = Stroke (at + length (escape name)) (n + length name)
+-- what reading comes to as one number, where it goes on at the place `at` after n bytes of the name, in bytes whose length is `last`
+abbrev pub numberOf : Name → ℕ → ℕ → ℕ → ℕ
+-- a bad escape: the length
+numberOf bad at n last = last
+-- a name that the last byte ends: above the length, by one and by the bytes of the name; over 32 bytes: the length
+numberOf (ended name) at n last = cond (leb (n + length name) 32) (last + 1 + (n + length name)) last
+-- a name that a 2F ends: the place of that 2F, which is below the length; over 32 bytes: the length
+numberOf (stopped name rest) at n last = cond (leb (n + length name) 32) (at + length (escape name)) last
 
--- where a name of up to 32 bytes ends at a 2F, and `last` where it does not
-abbrev pub strokeOf : Scan → ℕ → ℕ
-strokeOf Refused last = last
-strokeOf (End n) last = last
-strokeOf (Stroke at n) last = cond (leb n 32) at last
-
--- answer and length of a plain name that the last byte ends
-abbrev pub countOf : Scan → Wrote
-countOf Refused = wrote 13 0
-countOf (End n) = wrote 0 n
-countOf (Stroke at n) = wrote 13 0
+-- where a name of up to 32 bytes, read from the place `from` on, ends at a 2F, and `last` where it does not
+abbrev pub strokeOf : Name → ℕ → ℕ → ℕ
+strokeOf bad from last = last
+strokeOf (ended name) from last = last
+strokeOf (stopped name rest) from last = cond (leb (length name) 32) (from + length (escape name)) last
 
 -- the plain name, or no bytes
 abbrev pub plainOf : List ℕ → List ℕ

@@ -4,15 +4,8 @@ ghost use mathlib.Core.Path.{_≡_};
 ghost use Prim.Native.Nat.{_-_, _<_, _≤_};
 ghost use lib.ListN.{length, drop};
 ghost use lib.Seq.{sets};
-ghost use Rattle.names.specs.Names.{marked, escape, readPlain, readEscaped, unescaped, nameIn, plainWrote, plainRoom};
-ghost use Rattle.names.specs.Steps.{scannedAt, strokeOf, countOf, plainOf, pastMark};
-
-// How a name ends: not at all, at the last byte, or at a 2F; and how many plain bytes it has.
-enum Scan {
-    Refused,
-    End(usize),
-    Stroke(usize, usize),
-}
+ghost use Rattle.names.specs.Names.{marked, escape, readPlain, readEscaped, nameIn, plainWrote, plainRoom};
+ghost use Rattle.names.specs.Steps.{numberOf, strokeOf, plainOf, pastMark};
 
 // A byte that a name has escaped.
 pub fn is_marked(b: u8) -> bool
@@ -21,71 +14,53 @@ pub fn is_marked(b: u8) -> bool
     (b == 0x2F) | (b == 0x5C)
 }
 
-// Plain reading from a place on, after n bytes of the name.
-fn plain(key: &[u8], at: usize, n: usize) -> Scan
-    requires { ⌜ n ≤ at ⌝ }
-    ensures { λ r. ⌜ r ≡ scannedAt (readPlain (drop at (now (key .entry)))) at n ⌝ }
+// Plain reading from a place on, after n bytes of the name; `numberOf` has what the answer says.
+fn plain(key: &[u8], at: usize, n: usize) -> usize
+    requires { ⌜ n ≤ 32 ⌝ }
+    ensures { λ r. ⌜ r ≡ numberOf (readPlain (drop at (now (key .entry)))) at n (length (now (key .entry))) ⌝ }
 {
-    if at < key.len() {
-        let b = key[at];
-        if b == 0x2F {
-            Scan::Stroke(at, n)
-        } else if b == 0x5C {
-            escaped(key, at + 1, n)
-        } else {
-            plain(key, at + 1, n + 1)
-        }
-    } else {
-        Scan::End(n)
+    if key.len() <= at {
+        return key.len() + 1 + n;
     }
+    let b = key[at];
+    if b == 0x2F {
+        return at;
+    }
+    // a 33rd byte, which no name of a key has: reading calls itself no deeper
+    if n == 32 {
+        return key.len();
+    }
+    if b == 0x5C {
+        return escaped(key, at + 1, n);
+    }
+    plain(key, at + 1, n + 1)
 }
 
 // The escape rule: the one byte that the mark before it hands on, then plain reading.
-fn escaped(key: &[u8], at: usize, n: usize) -> Scan
-    requires { ⌜ n < at ⌝ }
-    ensures { λ r. ⌜ r ≡ scannedAt (readEscaped (drop at (now (key .entry)))) (at - 1) n ⌝ }
+fn escaped(key: &[u8], at: usize, n: usize) -> usize
+    requires { ⌜ 0 < at ⌝ }
+    requires { ⌜ n < 32 ⌝ }
+    ensures { λ r. ⌜ r ≡ numberOf (readEscaped (drop at (now (key .entry)))) (at - 1) n (length (now (key .entry))) ⌝ }
 {
-    if at < key.len() {
-        let handed = key[at];
-        if is_marked(handed) {
-            plain(key, at + 1, n + 1)
-        } else {
-            Scan::Refused
-        }
-    } else {
-        Scan::Refused
+    if key.len() <= at {
+        return key.len();
     }
+    let handed = key[at];
+    if is_marked(handed) {
+        return plain(key, at + 1, n + 1);
+    }
+    key.len()
 }
 
-// Where a name of up to 32 bytes, read from a place on, ends at a 2F; the key's length where it does not. Only `key` calls this, with 139 bytes at most.
+// Where a name of up to 32 bytes, read from a place on, ends at a 2F; the key's length where it does not.
 pub fn stroke(key: &[u8], from: usize) -> usize
-    ensures { λ r. ⌜ r ≡ strokeOf (scannedAt (readPlain (drop from (now (key .entry)))) from 0) (length (now (key .entry))) ⌝ }
+    ensures { λ r. ⌜ r ≡ strokeOf (readPlain (drop from (now (key .entry)))) from (length (now (key .entry))) ⌝ }
 {
-    match plain(key, from, 0) {
-        Scan::Stroke(at, n) => { if n <= 32 { at } else { key.len() } }
-        Scan::End(_) => key.len(),
-        Scan::Refused => key.len(),
+    let number = plain(key, from, 0);
+    if key.len() < number {
+        return key.len();
     }
-}
-
-// How many bytes the plain name has. Answer 13: the bytes are no escaped name.
-fn count(part: &[u8]) -> Wrote
-    ensures { λ r. ⌜ r ≡ countOf (scannedAt (readPlain (now (part .entry))) 0 0) ⌝ }
-{
-    match plain(part, 0, 0) {
-        Scan::End(n) => Wrote {
-            answer: 0,
-            length: n,
-        },
-        Scan::Stroke(_, _) => Wrote {
-            answer: 13,
-            length: 0,
-        },
-        Scan::Refused => Wrote {
-            answer: 13,
-            length: 0,
-        },
-    }
+    number
 }
 
 // The place of the byte that an escape mark at a place hands on, or that place.
@@ -113,29 +88,19 @@ fn put_plain(part: &[u8], n: usize, room: &mut [u8])
     }
 }
 
-// A name still escaped, written plain at the front of the room. Answer 12: the room is too short; 13: no escaped name, or over 64 bytes, which no key's part has.
+// A name still escaped, written plain at the front of the room. Answer 12: the room is too short; 13: no key shows such a part.
 pub fn unescape(part: &[u8], room: &mut [u8]) -> Wrote
     ensures { λ r. ⌜ r ≡ plainWrote (nameIn (now (part .entry))) (now (room .entry)) ⌝ }
     ensures { λ _. ⌜ now (room .exit) ≡ plainRoom (nameIn (now (part .entry))) (now (room .entry)) ⌝ }
 {
-    if 64 < part.len() {
+    let number = plain(part, 0, 0);
+    if number <= part.len() {
         return Wrote {
             answer: 13,
             length: 0,
         };
     }
-    unescape_short(part, room)
-}
-
-fn unescape_short(part: &[u8], room: &mut [u8]) -> Wrote
-    ensures { λ r. ⌜ r ≡ plainWrote (unescaped (now (part .entry))) (now (room .entry)) ⌝ }
-    ensures { λ _. ⌜ now (room .exit) ≡ plainRoom (unescaped (now (part .entry))) (now (room .entry)) ⌝ }
-{
-    let c = count(part);
-    if c.answer == 13 {
-        return c;
-    }
-    let n = c.length;
+    let n = number - part.len() - 1;
     if room.len() < n {
         return Wrote {
             answer: 12,
@@ -143,5 +108,8 @@ fn unescape_short(part: &[u8], room: &mut [u8]) -> Wrote
         };
     }
     put_plain(part, n, room);
-    c
+    Wrote {
+        answer: 0,
+        length: n,
+    }
 }

@@ -2,11 +2,12 @@
 -- Assumes nothing.
 use mathlib.Core.Path.{refl}
 use Rattle.outcomes.specs.Outcome.{Settled}
-use Rattle.outcomes.specs.Keys.{isMarkedTerms, strokeTerms, unescapeTerms, readKeyTerms, makerPartTerms, devicePartTerms, writeKeyTerms}
+use Rattle.outcomes.specs.Keys.{isMarkedTerms, strokeTerms, unescapeTerms, findTerms, readKeyTerms, makerPartTerms, devicePartTerms, writeKeyTerms}
 use Rattle.outcomes.proofs.One.{settled}
 use Rattle.names.proofs.is_marked as is-marked-owed
 use Rattle.names.proofs.stroke as stroke-owed
 use Rattle.names.proofs.unescape as unescape-owed
+use Rattle.key.proofs.find as find-owed
 use Rattle.key.proofs.read_key as read-key-owed
 use Rattle.key.proofs.maker_part as maker-part-owed
 use Rattle.key.proofs.device_part as device-part-owed
@@ -20,6 +21,9 @@ stroke-settled = settled strokeTerms (λ M 𝓤 H A memory run. refl)
 
 pub unescape-settled : Settled (λ M. unescape-owed.clauses {M = M}) unescapeTerms
 unescape-settled = settled unescapeTerms (λ M 𝓤 H A memory run. refl)
+
+pub find-settled : Settled (λ M. find-owed.clauses {M = M}) findTerms
+find-settled = settled findTerms (λ M 𝓤 H A memory run. refl)
 
 pub read-key-settled : Settled (λ M. read-key-owed.clauses {M = M}) readKeyTerms
 read-key-settled = settled readKeyTerms (λ M 𝓤 H A memory run. refl)

@@ -5,9 +5,9 @@ use Rattle.outcomes.specs.Outcome.{Settled}
 use Rattle.outcomes.specs.Pack.{soundTerms, zeroTerms, latestOfTerms, setUpTerms, elapsedTerms, sampleTerms, transactTerms}
 use Rattle.outcomes.proofs.One.{settled}
 use Rattle.pack.proofs.sound as sound-owed
-use Rattle.pack.proofs.zero as zero-owed
+use Rattle.start.proofs.zero as zero-owed
 use Rattle.pack.proofs.latest_of as latest-of-owed
-use Rattle.pack.proofs.set_up as set-up-owed
+use Rattle.start.proofs.set_up as set-up-owed
 use Rattle.clock.proofs.elapsed as elapsed-owed
 use Rattle.clock.proofs.sample as sample-owed
 use Rattle.bus.proofs.transact as transact-owed

@@ -7,7 +7,7 @@ use Rattle.key.specs.Key as keys
 use Rattle.key_writer.specs.Writing as writing
 use Rattle.names.specs.Names as names
 use Rattle.outcomes.specs.Outcome.{Terms, termsOf}
-use Rattle.pack.specs.SetUp.{setUpOf}
+use Rattle.start.specs.SetUp.{setUpOf}
 use Rattle.packed.specs.Packed.{checkNumber, comparisonNumber, locatedNumber, openedNumber, readNumber, stepNumber, wroteNumber}
 use Rattle.pec.specs.Messages.{bitComparison, exchangeCheck}
 use Rattle.pec.specs.Pec.{pecOf}

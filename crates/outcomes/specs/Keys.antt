@@ -1,11 +1,12 @@
 -- Keys: what comes out of each public function, and what must.
 -- Assumes nothing.
 use Prim.Native.Nat.{ℕ}
-use Rattle.key.specs.Key.{deviceOf, deviceStart, makerOf, readKey, readOf}
+use Rattle.key.specs.Key.{deviceOf, deviceStart, foundOf, makerOf, readKey, readOf}
+use Rattle.key.specs.declared.Found.{Found}
 use Rattle.key.specs.declared.Read.{Read}
 use Rattle.key_writer.specs.Writing.{keyRoom, keyWrote}
 use Rattle.names.specs.Names.{marked, nameIn, plainRoom, plainWrote, readPlain}
-use Rattle.names.specs.Steps.{scannedAt, strokeOf}
+use Rattle.names.specs.Steps.{strokeOf}
 use Rattle.outcomes.specs.Outcome.{Terms, termsOf}
 use Rattle.rooms.specs.Rooms.{further}
 use Rattle.rooms.specs.declared.Wrote.{Wrote}
@@ -16,6 +17,7 @@ use mathlib.Core.List.{List, [], _∷_}
 use Rattle.names.proofs.is_marked as is-marked-owed
 use Rattle.names.proofs.stroke as stroke-owed
 use Rattle.names.proofs.unescape as unescape-owed
+use Rattle.key.proofs.find as find-owed
 use Rattle.key.proofs.read_key as read-key-owed
 use Rattle.key.proofs.maker_part as maker-part-owed
 use Rattle.key.proofs.device_part as device-part-owed
@@ -33,7 +35,7 @@ abbrev pub strokeTerms : Terms stroke-owed.ended
 strokeTerms = termsOf
     (ℕ ∷ [])
     (λ κs r _. (r, tt))
-    (λ κs (key, (from, _)). (strokeOf (scannedAt (readPlain (drop from (now key))) from 0) (length (now key)), tt))
+    (λ κs (key, (from, _)). (strokeOf (readPlain (drop from (now key))) from (length (now key)), tt))
 
 -- `unescape`
 abbrev pub unescapeTerms : Terms unescape-owed.ended
@@ -41,6 +43,13 @@ unescapeTerms = termsOf
     (Wrote ∷ List ℕ ∷ [])
     (λ κs r (_, (room, _)). (r, (now room, tt)))
     (λ κs (part, (room, _)). (plainWrote (nameIn (now part)) (now room), (plainRoom (nameIn (now part)) (now room), tt)))
+
+-- `find`
+abbrev pub findTerms : Terms find-owed.ended
+findTerms = termsOf
+    (Found ∷ [])
+    (λ κs r _. (r, tt))
+    (λ κs (key, _). (foundOf (readKey (now key)), tt))
 
 -- `read_key`
 abbrev pub readKeyTerms : Terms read-key-owed.ended

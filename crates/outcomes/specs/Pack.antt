@@ -7,19 +7,20 @@ use Rattle.clock.specs.Broadcast.{broadcastRoom, sampleOf}
 use Rattle.clock.specs.Sample.{elapsedOf}
 use Rattle.clock.specs.declared.Sampled.{Sampled}
 use Rattle.outcomes.specs.Outcome.{Terms, termsOf}
-use Rattle.pack.specs.SetUp.{latestOf, setUpOf, zeroState}
+use Rattle.pack.specs.Kept.{latestOf}
+use Rattle.start.specs.SetUp.{setUpOf, zeroState}
 use Rattle.pack.specs.Sound.{soundOf}
 use Rattle.pack.specs.declared.Latest.{Latest}
-use Rattle.pack.specs.declared.Started.{Started}
+use Rattle.start.specs.declared.Started.{Started}
 use Rattle.pack.specs.declared.State.{State}
 use denote.Ref.{now}
 use lib.ListN.{length}
 use mathlib.Core.Bool.{Bool}
 use mathlib.Core.List.{List, [], _∷_}
 use Rattle.pack.proofs.sound as sound-owed
-use Rattle.pack.proofs.zero as zero-owed
+use Rattle.start.proofs.zero as zero-owed
 use Rattle.pack.proofs.latest_of as latest-of-owed
-use Rattle.pack.proofs.set_up as set-up-owed
+use Rattle.start.proofs.set_up as set-up-owed
 use Rattle.clock.proofs.elapsed as elapsed-owed
 use Rattle.clock.proofs.sample as sample-owed
 use Rattle.bus.proofs.transact as transact-owed

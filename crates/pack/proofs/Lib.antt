@@ -1,3 +1,2 @@
-pub mod Conditions
+pub mod Kept
 pub mod Soundness
-pub mod Start

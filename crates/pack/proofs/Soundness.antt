@@ -1,12 +1,11 @@
 -- What each part's test says, fact by fact, and back; a sound state's parts; the error code may change below 8.
 -- Assumes nothing.
-use Prim.Native.Nat.{ℕ, _≤_}
-use mathlib.Core.Bool.{Bool, true, false, not, _&&_, _||_, and-eq-true-iff, false≢true}
+use Prim.Native.Nat.{ℕ, _<_, _≤_}
+use mathlib.Core.Bool.{Bool, true, false, not, _||_, and-eq-true-iff, false≢true}
 use mathlib.Core.Path.{_≡_, refl, sym}
 use native.Mathlib.Omega.{arith}
 use lib.Dec.{eqb}
-use borrow.Author.Tests.{eq-eqb, ne-eqb, eqb-true, le-leb, leb-true, not-true}
-use Rattle.pack.proofs.Conditions.{not-zero}
+use borrow.Author.Tests.{eq-eqb, ne-eqb, eqb-true, eqb-false, le-leb, leb-true, not-true}
 use Rattle.pack.specs.Facts.{SettingsFacts, TankFacts, TimersFacts, SoundParts}
 use Rattle.pack.specs.Sound.{exactly, settingsSound, tankSound, timersSound, errorSound, packSound, soundOf}
 use Rattle.pack.specs.declared.Host.{Host}
@@ -16,6 +15,10 @@ use Rattle.pack.specs.declared.State.{State}
 use Rattle.pack.specs.declared.Tank.{Tank}
 use Rattle.pack.specs.declared.Timers.{Timers}
 use Rattle.recent.proofs.Soundness.{recent-facts}
+
+-- a number that is not 0 is above 0
+pub not-zero : (n : ℕ) → eqb n 0 ≡ false → 0 < n
+not-zero n h = omega (arith, eqb-false n 0 h)
 
 pub settings-facts : (s : Settings) → settingsSound s ≡ true → SettingsFacts s
 unfolding settingsSound

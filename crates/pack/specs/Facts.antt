@@ -1,4 +1,4 @@
--- What the tests say fact by fact: each part's (specs/Sound), and set-up's conditions where it is served.
+-- What each part's test (specs/Sound) says, fact by fact.
 -- Assumes nothing.
 use Prim.Native.Nat.{_<_, _≤_}
 use mathlib.Core.Bool.{true, false}
@@ -8,7 +8,6 @@ use Rattle.pack.specs.Sound.{settingsSound, tankSound, timersSound}
 use Rattle.pack.specs.declared.Host.{Host}
 use Rattle.pack.specs.declared.Pack.{Pack}
 use Rattle.pack.specs.declared.Settings.{Settings}
-use Rattle.pack.specs.declared.Setup.{Setup}
 use Rattle.pack.specs.declared.Tank.{Tank}
 use Rattle.pack.specs.declared.Timers.{Timers}
 use Rattle.recent.specs.Recent.{recentSound}
@@ -35,10 +34,3 @@ pub record SoundParts (p : Pack) : Type 0 where
   pub tank : tankSound (p .tank) ≡ true
   pub recent : recentSound (p .recent) ≡ true
   pub timers : timersSound (p .host) (p .timers) ≡ true
-
--- set-up that isn't refused
-pub record Served (u : Setup) : Type 0 where
-  pub design : 0 < u .DesignCapacity
-  pub full : 0 < u .full
-  pub voltage : 0 < u .DesignVoltage
-  pub remaining : u .remaining ≤ u .full

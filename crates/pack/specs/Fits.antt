@@ -1,4 +1,4 @@
--- What the types of fields let them hold: of a state, part by part, and of what set-up and a sample bring.
+-- What the types of fields let them hold: of a state, part by part, and of what a sample brings.
 -- Bytes, words of 16 bits, numbers of 32 and of 64, a signed number of 16.
 -- Assumes nothing.
 use Prim.Native.Nat.{_^_, _<_}
@@ -9,7 +9,6 @@ use Rattle.pack.specs.declared.Latest.{Latest}
 use Rattle.pack.specs.declared.Pack.{Pack}
 use Rattle.pack.specs.declared.Sample.{Sample}
 use Rattle.pack.specs.declared.Settings.{Settings}
-use Rattle.pack.specs.declared.Setup.{Setup}
 use Rattle.pack.specs.declared.State.{State}
 use Rattle.pack.specs.declared.Tank.{Tank}
 use Rattle.pack.specs.declared.Timers.{Timers}
@@ -60,21 +59,7 @@ pub record Fits (s : State) : Type 0 where
   pub error : s .error < 256
   pub pack : PackFits (s .pack)
 
--- ---- what set-up and a sample bring
-
-pub record SetupFits (u : Setup) : Type 0 where
-  pub DesignCapacity : u .DesignCapacity < 65536
-  pub full : u .full < 65536
-  pub remaining : u .remaining < 65536
-  pub DesignVoltage : u .DesignVoltage < 65536
-  pub MaxError : u .MaxError < 65536
-  pub CycleCount : u .CycleCount < 65536
-  pub ManufactureDate : u .ManufactureDate < 65536
-  pub SerialNumber : u .SerialNumber < 65536
-  pub ChargingCurrent : u .ChargingCurrent < 65536
-  pub ChargingVoltage : u .ChargingVoltage < 65536
-  pub TemperatureLimit : u .TemperatureLimit < 65536
-  pub DischargeLimit : u .DischargeLimit < 65536
+-- ---- what a sample brings
 
 pub record SampleFits (x : Sample) : Type 0 where
   pub voltage : x .voltage < 65536

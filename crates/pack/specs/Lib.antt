@@ -1,5 +1,4 @@
 pub mod Sound
 pub mod Facts
 pub mod Fits
-pub mod SetUp
-pub mod Promises
+pub mod Kept

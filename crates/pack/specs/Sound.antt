@@ -16,16 +16,16 @@ use Rattle.recent.specs.Recent.{recentSound}
 abbrev pub exactly : Bool → Bool → Bool
 exactly a b = cond a b (not b)
 
--- two of the three set-up conditions hold: design capacity and design voltage aren't 0
+-- two of the three set-up conditions hold: design capacity and design voltage aren't 0 (RULES 3.1)
 unfoldable pub settingsSound : Settings → Bool
 settingsSound s = not (eqb (s .DesignCapacity) 0) && not (eqb (s .DesignVoltage) 0)
 
--- the third holds, full isn't 0, and charge lies between 0 and full
+-- the third holds, full isn't 0, and charge lies between 0 and full (RULES 3.1, 3.2)
 unfoldable pub tankSound : Tank → Bool
 tankSound t = not (eqb (t .full) 0) && leb (t .charge) (milliampMs (t .full))
 
 -- the hold is at most 60,000, the alarm timer at most 10,000, the charger timer at most 29,999 and 0 while CHARGER_MODE is
--- set, and the alarm hold is 0 exactly when ALARM_MODE is clear
+-- set, and the alarm hold is 0 exactly when ALARM_MODE is clear (RULES 3.4 to 3.6)
 unfoldable pub timersSound : Host → Timers → Bool
 timersSound h t =
     leb (t .hold) 60000
@@ -33,15 +33,15 @@ timersSound h t =
     && leb (t .charger) 29999 && (not (h .ChargerMode) || eqb (t .charger) 0)
     && exactly (eqb (t .hold) 0) (not (h .AlarmMode))
 
--- the error code is at most 7
+-- the error code is at most 7 (RULES 3.7)
 unfoldable pub errorSound : ℕ → Bool
 errorSound code = leb code 7
 
--- all but the error code is sound; 1 to 60 samples are kept (recentSound)
+-- all but the error code is sound; 1 to 60 samples are kept (recentSound) (RULES 3.3)
 unfoldable pub packSound : Pack → Bool
 packSound p =
     settingsSound (p .settings) && tankSound (p .tank) && recentSound (p .recent) && timersSound (p .host) (p .timers)
 
--- a state is sound when each of its parts is
+-- a state is sound when each of its parts is (RULES 3)
 unfoldable pub soundOf : State → Bool
 soundOf s = packSound (s .pack) && errorSound (s .error)

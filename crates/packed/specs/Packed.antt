@@ -3,6 +3,7 @@ use mathlib.Core.Bool.{Bool, cond}
 use mathlib.Core.Option.{Option}
 use Prim.Native.Nat.{ℕ, _+_, _*_, _-_, _≤_}
 use lib.ListN.{length}
+use Rattle.capture.specs.Capture.{captureMost}
 use Rattle.capture.specs.Walk.{answerOf}
 use Rattle.capture.specs.declared.Opened.{Opened}
 use Rattle.capture.specs.declared.Step.{Step}
@@ -14,7 +15,7 @@ use Rattle.pec.specs.declared.Compared.{Compared}
 use Rattle.rooms.specs.declared.Wrote.{Wrote}
 use Rattle.sheet.specs.declared.Located.{Located}
 
--- an answer, and a number above it
+-- an answer, and a number above it (RULES 12.3)
 abbrev pub packed : ℕ → ℕ → ℕ
 packed answer above = answer + 256 * above
 
@@ -67,6 +68,6 @@ stepNumber place step = packed (answerOf step) (shownOfRow place step)
 
 -- a body that starts at a place and ends within the longest capture
 abbrev pub RowFits : ℕ → Step → Type 0
-RowFits place (Next mark row next) = (place ≤ next) × (next ≤ 9946)
+RowFits place (Next mark row next) = (place ≤ next) × (next ≤ captureMost)
 RowFits place End = Unit {0}
 RowFits place NotCapture = Unit {0}

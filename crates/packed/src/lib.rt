@@ -1,6 +1,7 @@
 // Results of several numbers in one: the answer in the low byte, the rest above it.
 ghost use mathlib.Core.Path.{_≡_};
 ghost use Prim.Native.Nat.{_+_, _-_, _*_, _<_, _≤_};
+ghost use Rattle.capture.specs.Capture.{captureMost};
 ghost use Rattle.packed.specs.Packed.{packed, oneIf, checkNumber, comparisonNumber, wroteNumber, openedNumber, keyNumber, locatedNumber, stepNumber, RowFits};
 use capture::Opened;
 use capture::Step;
@@ -78,7 +79,7 @@ pub fn located(l: Located) -> u64
 }
 
 fn row(mark: u8, place: usize, next: usize) -> u64
-    requires { ⌜ (place ≤ next) × (next ≤ 9946) ⌝ }
+    requires { ⌜ (place ≤ next) × (next ≤ captureMost) ⌝ }
     ensures { λ r. ⌜ r ≡ packed 0 (1 + 2 * mark + 256 * (next - place) + 16777216 * next) ⌝ }
 {
     let length = next - place;

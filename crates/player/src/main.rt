@@ -3,8 +3,8 @@ use capture::Step;
 use libc::STDIN_FILENO;
 use libc::STDOUT_FILENO;
 use pack::Sample;
-use pack::Setup;
 use pack::State;
+use start::Setup;
 
 // The player's pack: half full, 14.8 V designed and measured, all else 0.
 fn beginning() -> State {
@@ -28,7 +28,7 @@ fn beginning() -> State {
         temperature: 0,
         counter: 0,
     };
-    let started = pack::set_up(setup, first);
+    let started = start::set_up(setup, first);
     started.state
 }
 

@@ -4,9 +4,9 @@ ghost use Prim.Native.Nat.{_≤_};
 use bus::Transacted;
 use libc::STDOUT_FILENO;
 use pack::Sample;
-use pack::Setup;
 use pack::State;
 use rooms::wide;
+use start::Setup;
 
 fn text(bytes: &[u8]) {
     io::write_all(STDOUT_FILENO, bytes);
@@ -104,7 +104,7 @@ fn half_full(current: i16) -> State {
         temperature: 0,
         counter: 0,
     };
-    let started = pack::set_up(setup, first);
+    let started = start::set_up(setup, first);
     started.state
 }
 

@@ -1,4 +1,4 @@
--- "A reader walks a lent capture and remembers its row and place." Assumes nothing: these are definitions.
+-- Document 01, Pack sheet and capture: "A reader walks a lent capture and remembers its row and place." Assumes nothing: these are definitions.
 use mathlib.Core.List.{List, []}
 use Prim.Native.Nat.{ℕ, zero, suc}
 use denote.Ref.{RefT, now, ptr}
@@ -7,15 +7,15 @@ use Rattle.capture.specs.Capture.{Row}
 use Rattle.capture.specs.Walk.{openedOf, stepAt, bodyAt, bodyPlace, rowAfter, placeAfter, follow}
 use Rattle.reader.specs.declared.Reader.{Reader}
 
--- a reader begins at row 0 and its place
+-- a reader begins at row 0 and its place (RULES 10.4)
 abbrev pub startOf : RefT (List ℕ) → Reader
 startOf bytes = record { bytes = bytes; row = 0; place = openedOf (now bytes) .place }
 
--- what stands at a reader's row and place
+-- what stands at a reader's row and place (RULES 10.5)
 abbrev pub stepOf : Reader → Step
 stepOf r = stepAt (now (r .bytes)) (r .row) (r .place)
 
--- the body of a reader's row; or no bytes
+-- the body of a reader's row; or no bytes (RULES 10.4)
 abbrev pub bodyOf : Reader → List ℕ
 bodyOf r = bodyAt (now (r .bytes)) (r .row) (r .place)
 
@@ -23,7 +23,7 @@ bodyOf r = bodyAt (now (r .bytes)) (r .row) (r .place)
 abbrev pub bodyStart : Reader → ℕ × ℕ
 bodyStart r = bodyPlace (now (r .bytes)) (r .row) (r .place) (ptr (r .bytes))
 
--- the same capture, at the row and the place that the step goes on to
+-- the same capture, at the row and the place that the step goes on to (RULES 10.4)
 abbrev pub afterOf : Reader → Reader
 afterOf r = record { bytes = r .bytes; row = rowAfter (stepOf r) (r .row); place = placeAfter (stepOf r) (r .place) }
 

@@ -1,12 +1,11 @@
 -- What set-up and a sample make of the recent currents fits their types.
 -- Assumes nothing.
-use Prim.Native.Nat.{ℕ, zero, suc, _<_, min}
+use Prim.Native.Nat.{ℕ, zero, suc, _<_}
 use mathlib.Core.List.{List, [], _∷_}
-use mathlib.Core.Path.{_≡_, refl}
+use mathlib.Core.Path.{refl}
 use native.Mathlib.Omega.{arith}
 use lib.ListN.{length, replicate, take, length-take}
 use Rattle.recent.specs.Fits.{Below, RecentFit, ZeroRecentFits, StartedFits, AfterFits}
-use Rattle.recent.specs.Recent.{recentAfter}
 use Rattle.recent.specs.declared.Recent.{Recent}
 
 below-replicate : (bound n x : ℕ) → x < bound → Below bound (replicate n x)

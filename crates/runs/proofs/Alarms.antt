@@ -10,8 +10,8 @@ use Rattle.clock.specs.Broadcast.{sampledOf}
 use Rattle.clock.specs.Sample.{movedOf}
 use Rattle.clock_laws.proofs.Timers.{timer-decides, counts-on, moved-alarm}
 use Rattle.clock_laws.specs.Steps.{gap}
-use Rattle.status.specs.Status.{anyAlarm}
-use Rattle.pack.specs.SetUp.{packOf}
+use Rattle.alarms.specs.Alarms.{anyAlarm}
+use Rattle.start.specs.SetUp.{packOf}
 use Rattle.pack.specs.Sound.{soundOf}
 use Rattle.pack.specs.declared.Pack.{Pack}
 use Rattle.pack.specs.declared.Sample.{Sample}

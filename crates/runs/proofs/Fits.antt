@@ -5,7 +5,7 @@ use mathlib.Core.Path.{subst}
 use Rattle.bus_laws.proofs.Fits.{fits-stays}
 use Rattle.clock_laws.proofs.Fits.{sampled-fits}
 use Rattle.gauge_laws.proofs.Range.{word-below}
-use Rattle.pack.proofs.Start.{start-fits}
+use Rattle.start.proofs.Start.{start-fits}
 use Rattle.pack.specs.Fits.{Fits}
 use Rattle.pack.specs.declared.State.{State}
 use Rattle.rooms.specs.Rooms.{Bytes}

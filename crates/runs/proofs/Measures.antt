@@ -14,19 +14,19 @@ use Rattle.clock.specs.Broadcast.{sampledOf}
 use Rattle.clock.specs.Sample.{elapsedOf, movedOf}
 use Rattle.clock_laws.proofs.Charge.{charge-true}
 use Rattle.clock_laws.proofs.Elapsed.{elapsed-true}
-use Rattle.pack.proofs.Soundness.{tank-facts, parts, pack-of-sound}
-use Rattle.pack.proofs.Start.{sound-when-served}
-use Rattle.pack.specs.SetUp.{latestOf, setUpOf, setUpRefused, packOf, zeroState}
+use Rattle.start.proofs.Start.{sound-when-served}
+use Rattle.pack.specs.Kept.{latestOf}
+use Rattle.start.specs.SetUp.{setUpOf, setUpRefused, packOf, zeroState}
 use Rattle.pack.specs.Sound.{soundOf}
 use Rattle.pack.specs.declared.Pack.{Pack}
 use Rattle.pack.specs.declared.Sample.{Sample}
-use Rattle.pack.specs.declared.Setup.{Setup}
-use Rattle.pack.specs.declared.Started.{Started}
+use Rattle.start.specs.declared.Setup.{Setup}
+use Rattle.start.specs.declared.Started.{Started}
 use Rattle.pack.specs.declared.State.{State}
-use Rattle.runs.proofs.Histories.{seen-through, still-keeps}
+use Rattle.runs.proofs.Histories.{seen-through, still-keeps, tank-of}
 use Rattle.runs.specs.Events.{Event, sample, step, run, acceptedOf, timeOf}
 use Rattle.runs.specs.Histories.{History, done, still-then, took-then}
-use Rattle.runs.specs.Promises.{TimeTrue, MeasuresOfAccepted, KeptSinceSetUp, ChargeSinceSetUp}
+use Rattle.runs.specs.Promises.{TimeTrue, MeasuresOfAccepted, KeptSinceSetUp, ChargeFrom, ChargeSinceSetUp}
 use Rattle.runs.specs.Since.{fromSetUp, Measures, measuresOf, measuresAfter, samplesOf, currentsOf, Signed16, chargeOver, Counted}
 use Rattle.words.proofs.Integers.{split}
 use Rattle.capacity.specs.Capacity.{milliampMs}
@@ -38,7 +38,7 @@ written-measures : (p : Pack) (command word : ℕ) → measuresOf (packWritten p
 unfolding packWritten
 written-measures p command word = refl
 
-sampled-measures : (p : Pack) (x : Sample) → measuresOf (sampledOf p x) ≡ measuresAfter (measuresOf p) (x ∷ [])
+pub sampled-measures : (p : Pack) (x : Sample) → measuresOf (sampledOf p x) ≡ measuresAfter (measuresOf p) (x ∷ [])
 unfolding sampledOf movedOf
 sampled-measures p x = refl
 
@@ -130,10 +130,14 @@ charge-after m (x ∷ xs) l (f, fs) =
     charge-after _ xs (charge-held (m .tank .charge) (m .tank .full) (latestOf x .current) e l) fs
     ∙ ap (λ (c : ℤ). chargeOver (m .tank .full) c (x .counter) xs) (charge-true (m .tank .charge) (m .tank .full) e x f l)
 
+pub charge-from : ChargeFrom
+charge-from s es h f =
+    ap (λ (m : Measures). pos (m .tank .charge)) (measures-of-accepted s es h)
+    ∙ charge-after (measuresOf (s .pack)) (acceptedOf s es) (tank-of s h .charge) f
+
 pub charge-since-set-up : ChargeSinceSetUp
 unfolding packOf
 charge-since-set-up u first es a f =
     let s = fromSetUp u first in
-    ap (λ (m : Measures). pos (m .tank .charge)) (measures-of-accepted s es (set-up-sound u first a))
-    ∙ charge-after (measuresOf (s .pack)) (acceptedOf s es) (tank-facts (s .pack .tank) (parts (s .pack) (pack-of-sound s (set-up-sound u first a)) .tank) .charge) f
+    charge-from s es (set-up-sound u first a) f
     ∙ ap (λ (p : Pack). chargeOver (p .tank .full) (pos (p .tank .charge)) (p .latest .counter) (acceptedOf s es)) (set-up-pack u first a)

@@ -11,7 +11,8 @@ use Rattle.clock.specs.Broadcast.{sampleOf, broadcastRoom, servedSample, refuse
 use Rattle.clock.specs.Sample.{movedOf}
 use Rattle.frame.specs.Broadcasts.{messageOf}
 use Rattle.rooms.specs.Rooms.{placed}
-use Rattle.status.specs.Status.{chargerAlarm, alarmWord}
+use Rattle.alarms.specs.Alarms.{chargerAlarm}
+use Rattle.status.specs.Status.{alarmWord}
 use Rattle.pack.specs.Sound.{soundOf}
 use Rattle.pack.specs.declared.Pack.{Pack}
 use Rattle.pack.specs.declared.Sample.{Sample}

@@ -6,7 +6,7 @@ use mathlib.Core.List.{List, [], _∷_, _++_}
 use mathlib.Core.Path.{_≡_}
 use Rattle.broadcasts.specs.Broadcasts.{alarmGoes}
 use Rattle.clock.specs.Sample.{elapsedOf, movedOf}
-use Rattle.status.specs.Status.{anyAlarm}
+use Rattle.alarms.specs.Alarms.{anyAlarm}
 use Rattle.pack.specs.declared.Sample.{Sample}
 use Rattle.pack.specs.declared.State.{State}
 use Rattle.runs.specs.Events.{Event, sample, call, run, accepted, timeOf, ServedWrite}

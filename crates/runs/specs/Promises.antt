@@ -13,14 +13,17 @@ use Rattle.clock.specs.Sample.{movedOf}
 use Rattle.commands.specs.Answers.{served}
 use Rattle.frame.specs.Broadcasts.{messageOf}
 use Rattle.frame.specs.Transactions.{replyOf, wordBody}
-use Rattle.status.specs.Status.{anyAlarm, alarmWord}
+use Rattle.alarms.specs.Alarms.{anyAlarm}
+use Rattle.status.specs.Status.{alarmWord}
 use Rattle.gauge.specs.Word.{wordOf}
-use Rattle.pack.specs.Fits.{Fits, SampleFits, SetupFits}
-use Rattle.pack.specs.SetUp.{latestOf, setUpOf}
+use Rattle.pack.specs.Fits.{Fits, SampleFits}
+use Rattle.start.specs.Fits.{SetupFits}
+use Rattle.pack.specs.Kept.{latestOf}
+use Rattle.start.specs.SetUp.{setUpOf}
 use Rattle.pack.specs.Sound.{soundOf}
 use Rattle.pack.specs.declared.Pack.{Pack}
 use Rattle.pack.specs.declared.Sample.{Sample}
-use Rattle.pack.specs.declared.Setup.{Setup}
+use Rattle.start.specs.declared.Setup.{Setup}
 use Rattle.pack.specs.declared.State.{State}
 use Rattle.rooms.specs.Rooms.{Bytes, placed}
 use Rattle.runs.specs.Alarms.{Alarming, NoAlarm, AlarmWithin, ModeWrite, NoModeWrite}
@@ -84,6 +87,13 @@ abbrev pub KeptSinceSetUp : Type 0
 KeptSinceSetUp =
     (u : Setup) (first : Sample) (es : List Event) → setUpOf u first .answer ≡ 0
     → samplesOf (run (fromSetUp u first) es .pack .recent) ≡ take 60 (currentsOf (latestOf first .current ∷ []) (acceptedOf (fromSetUp u first) es))
+
+-- from any sound state, current × elapsed of every accepted sample is added to the charge, held between 0 and full
+abbrev pub ChargeFrom : Type 0
+ChargeFrom =
+    (s : State) (es : List Event) → soundOf s ≡ true → Signed16 (acceptedOf s es)
+    → pos (run s es .pack .tank .charge)
+    ≡ chargeOver (s .pack .tank .full) (pos (s .pack .tank .charge)) (s .pack .latest .counter) (acceptedOf s es)
 
 -- charge is set-up's remaining capacity and, over all accepted samples since, current × elapsed added and held between 0 and full
 abbrev pub ChargeSinceSetUp : Type 0

@@ -9,11 +9,12 @@ use mir.Syntax.{w16}
 use mir.Val.{SFits}
 use Rattle.clock.specs.Sample.{elapsedOf}
 use Rattle.clock_laws.specs.Steps.{heldTo}
-use Rattle.pack.specs.SetUp.{latestOf, setUpOf}
+use Rattle.pack.specs.Kept.{latestOf}
+use Rattle.start.specs.SetUp.{setUpOf}
 use Rattle.pack.specs.declared.Latest.{Latest}
 use Rattle.pack.specs.declared.Pack.{Pack}
 use Rattle.pack.specs.declared.Sample.{Sample}
-use Rattle.pack.specs.declared.Setup.{Setup}
+use Rattle.start.specs.declared.Setup.{Setup}
 use Rattle.pack.specs.declared.State.{State}
 use Rattle.pack.specs.declared.Tank.{Tank}
 use Rattle.tank.specs.Charge.{tankAfter}

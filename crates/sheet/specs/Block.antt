@@ -1,4 +1,4 @@
--- Which part of which sheet is shown as a block name. Definitions: assumes nothing.
+-- Document 01, Pack sheet and capture: which part of which sheet is shown as a block name. Definitions: assumes nothing.
 use mathlib.Core.Bool.{Bool, true, false, cond, _&&_}
 use mathlib.Core.List.{List}
 use Prim.Native.Nat.{ℕ, zero, suc, _+_}
@@ -22,7 +22,7 @@ findIn s tag = findRow (rowsListed s) s 1 tag
 pub data Part : Type 0 where
   ofService ofFactory : ℕ → ℕ → Part
 
--- the service sheet's if listed there, else the factory sheet's; listed in neither: no bytes of the factory sheet
+-- the service sheet's if listed there, else the factory sheet's; listed in neither: no bytes of the factory sheet (RULES 9.6)
 abbrev pub firstOf : Found → Found → Part
 firstOf (At a e) other = ofService a e
 firstOf Nothing (At a e) = ofFactory a e
@@ -32,7 +32,7 @@ firstOf Nothing Nothing = ofFactory 0 0
 abbrev pub goodSheets : List ℕ → List ℕ → Bool
 goodSheets service factory = isSheet service && isSheet factory
 
--- the part that is shown; of a bad sheet no bytes of the factory sheet
+-- the part that is shown; of a bad sheet no bytes of the factory sheet (RULES 9.5)
 unfoldable pub partOf : List ℕ → List ℕ → ℕ → Part
 partOf service factory tag = cond (goodSheets service factory) (firstOf (findIn service tag) (findIn factory tag)) (ofFactory 0 0)
 
@@ -51,15 +51,15 @@ abbrev pub locatedBy : Part → Located
 locatedBy (ofService a e) = record { answer = 0; factory = false; start = a; end = e }
 locatedBy (ofFactory a e) = record { answer = 0; factory = true; start = a; end = e }
 
--- the part that is shown, by numbers; where a sheet is bad 9, and the other numbers are 0
+-- the part that is shown, by numbers; where a sheet is bad 9, and the other numbers are 0 (RULES 1.9)
 unfoldable pub locatedOf : List ℕ → List ℕ → ℕ → Located
 locatedOf service factory tag =
     cond (goodSheets service factory) (locatedBy (partOf service factory tag)) (record { answer = 9; factory = false; start = 0; end = 0 })
 
--- the block name
+-- the block name (RULES 9.6)
 unfoldable pub blockOf : List ℕ → List ℕ → ℕ → List ℕ
 blockOf service factory tag = partBytes (partOf service factory tag) service factory
 
--- the answer number: 9 where a sheet is bad
+-- the answer number: 9 where a sheet is bad (RULES 1.9)
 unfoldable pub blockAnswer : List ℕ → List ℕ → ℕ
 blockAnswer service factory = cond (goodSheets service factory) 0 9

@@ -1,4 +1,4 @@
--- What a pack sheet is, and the test for one. Definitions: assumes nothing.
+-- Document 01, Pack sheet and capture: what a pack sheet is, and the test for one. Definitions: assumes nothing.
 use mathlib.Core.Bool.{Bool, false, cond, _&&_}
 use mathlib.Core.List.{List, [], _∷_, _++_}
 use mathlib.Core.Option.{Option, none, some}
@@ -14,12 +14,12 @@ pub record Entry : Type 0 where
   pub tag : ℕ
   pub body : List ℕ
 
--- a row for each entry: tag, length, offset (low byte first); the first body lies at `offset`, each next one where the one before ends
+-- a row for each entry: tag, length, offset (low byte first); the first body lies at `offset`, each next one where the one before ends (RULES 9.2)
 abbrev pub rowsOf : ℕ → List Entry → List ℕ
 rowsOf offset [] = []
 rowsOf offset (e ∷ es) = e .tag ∷ length (e .body) ∷ offset % 256 ∷ offset / 256 ∷ rowsOf (offset + length (e .body)) es
 
--- the bodies in that order, without gaps
+-- the bodies in that order, without gaps (RULES 9.3)
 abbrev pub bodiesOf : List Entry → List ℕ
 bodiesOf [] = []
 bodiesOf (e ∷ es) = e .body ++ bodiesOf es
@@ -37,19 +37,19 @@ pub record Form : Type 0 where
   pub mark : ℕ
   pub kinds : List TagKind
 
--- a block name has 0 to 32 bytes
+-- a block name has 0 to 32 bytes (RULES 9.2)
 abbrev pub name : ℕ → TagKind
 name tag = record { tag = tag; least = 0; most = 32 }
 
--- the form of document 01: the first byte is n, 0 to 4, and the tags are 20 to 23
+-- the form of document 01: the first byte is n, 0 to 4, and the tags are 20 to 23 (RULES 9.1, 9.2)
 unfoldable pub old : Form
 old = record { mark = 0; kinds = name 0x20 ∷ name 0x21 ∷ name 0x22 ∷ name 0x23 ∷ [] }
 
--- the contents: the first byte, then the rows; the first body starts right after them
+-- the contents: the first byte, then the rows; the first body starts right after them (RULES 9.1)
 abbrev pub contentsOf : Form → List Entry → List ℕ
 contentsOf f es = (f .mark + length es) ∷ rowsOf (1 + 4 * length es) es
 
--- the sheet of entries: the contents first, then the bodies, which end it
+-- the sheet of entries: the contents first, then the bodies, which end it (RULES 9.1, 9.3)
 unfoldable pub sheetOf : Form → List Entry → List ℕ
 sheetOf f es = contentsOf f es ++ bodiesOf es
 
@@ -92,13 +92,13 @@ unfoldable pub rowsOk : List TagKind → ℕ → List ℕ → ℕ → ℕ → �
 rowsOk ks zero s at low end = eqb end (length s)
 rowsOk ks (suc n) s at low end = rowOk ks s at low end && rowsOk ks n s (at + 4) (tagAt s at + 1) (end + lengthAt s at)
 
--- bytes are a sheet of a form: the first byte is mark + n, there are at most as many rows as kinds, and they are right; the bodies follow them
+-- bytes are a sheet of a form: the first byte is mark + n, there are at most as many rows as kinds, and they are right; the bodies follow them (RULES 9.1 to 9.3)
 unfoldable pub isSheetOf : Form → List ℕ → Bool
 isSheetOf f s =
     ltb 0 (length s) && eqb (getD s 0 0) (f .mark + rowsListed s) && leb (rowsListed s) (length (f .kinds)) && leb (1 + 4 * rowsListed s) (length s)
     && rowsOk (f .kinds) (rowsListed s) s 1 0 (1 + 4 * rowsListed s)
 
--- bytes are a sheet
+-- bytes are a sheet (RULES 9)
 abbrev pub isSheet : List ℕ → Bool
 isSheet s = isSheetOf old s
 

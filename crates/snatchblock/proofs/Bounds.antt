@@ -1,23 +1,22 @@
 -- What is packed above an answer has room there.
 -- Assumes nothing.
-use mathlib.Core.Bool.{Bool, true, false, cond, not, _||_}
+use mathlib.Core.Bool.{not, _||_}
 use mathlib.Mathlib.Data.Bool.Basic.{or-eq-false-eq-eq-false-and-eq-false}
 use mathlib.Core.List.{List, [], _∷_}
 use mathlib.Core.Option.{Option, none, some}
-use mathlib.Core.Path.{_≡_, refl, ap}
+use mathlib.Core.Path.{_≡_, refl}
 use Prim.Native.Nat.{ℕ, suc, _+_, _*_, _≤_, _<_}
 use native.Mathlib.Omega.{arith}
-use borrow.Author.Tests.{ltb-false}
-use lib.Dec.{eqb, ltb}
-use lib.ListN.{length, getD, length-append}
+use borrow.Author.Tests.{ltb-false, leb-true}
+use lib.Dec.{eqb, ltb, leb}
+use lib.ListN.{length, getD}
 use Rattle.capture.proofs.Check as capture
 use Rattle.capture.specs.Capture.{isCapture, countIn, placeIn}
 use Rattle.capture.specs.Walk.{openedOf}
 use Rattle.capture.specs.declared.Opened.{Opened}
-use Rattle.names.proofs.Unescaping.{unescaped-is}
 use Rattle.names.proofs.Escaping.{escape-length}
 use Rattle.key.proofs.Form.{key-length}
-use Rattle.names.specs.Names.{marked, escapeByte, escape, unescaped, nameIn, plainWrote}
+use Rattle.names.specs.Names.{unescaped, ofKey, nameIn, plainWrote}
 use Rattle.key_writer.specs.Writing.{refused, keyWrote}
 use Rattle.packed.proofs.Choice.{chosen}
 use Rattle.rooms.specs.declared.Wrote.{Wrote}
@@ -53,27 +52,20 @@ key-most maker device date serial room =
     let n = or-eq-false-eq-eq-false-and-eq-false (ltb 32 (length maker)) (ltb 32 (length device)) .0 (r .0) in
     omega (arith, key-length maker device date serial, escape-length maker, escape-length device, ltb-false 32 (length maker) (n .0), ltb-false 32 (length device) (n .1)))
 
-byte-some : (b : Bool) (x : ℕ) → 1 ≤ length (cond b (0x5C ∷ x ∷ []) (x ∷ []))
-byte-some true x = omega arith
-byte-some false x = omega arith
-
-escape-longer : (name : List ℕ) → length name ≤ length (escape name)
-escape-longer [] = omega arith
-escape-longer (x ∷ name) = omega (arith, length-append (escapeByte x) (escape name), byte-some (marked x) x, escape-longer name)
-
 -- a plain name's length
-pub plain-most : (part room : List ℕ) → plainWrote (nameIn part) room .length ≤ 64
+pub plain-most : (part room : List ℕ) → plainWrote (nameIn part) room .length ≤ 32
 unfolding nameIn
-plain-most part room = chosen Small (ltb 64 (length part)) (λ h. omega arith) (λ h. go (unescaped part) refl (ltb-false 64 (length part) h))
+plain-most part room = go (unescaped part)
   where
     Small : Option (List ℕ) → Type 0
-    Small o = plainWrote o room .length ≤ 64
+    Small o = plainWrote o room .length ≤ 32
 
-    go : (o : Option (List ℕ)) → unescaped part ≡ o → length part ≤ 64 → Small o
-    go none e l = omega arith
-    go (some name) e l =
-        chosen (λ (w : Wrote). w .length ≤ 64) (ltb (length room) (length name)) (λ h. omega arith)
-        (λ h. omega (arith, escape-longer name, ap length (unescaped-is part name e)))
+    go : (o : Option (List ℕ)) → Small (ofKey o)
+    go none = omega arith
+    go (some name) =
+        chosen Small (leb (length name) 32)
+        (λ l. chosen (λ (w : Wrote). w .length ≤ 32) (ltb (length room) (length name)) (λ h. omega arith) (λ h. leb-true (length name) 32 l))
+        (λ l. omega arith)
 
 -- ---- captures
 

@@ -1,37 +1,43 @@
 -- What is packed of keys, block names and rows has room above the answer.
 -- Assumes nothing.
-use mathlib.Core.Bool.{true, _&&_, and-eq-true-iff}
+use mathlib.Core.Bool.{true}
 use mathlib.Core.List.{List}
 use mathlib.Core.Option.{Option, none, some}
 use mathlib.Core.Path.{_≡_, refl, sym, subst}
-use Prim.Native.Nat.{ℕ, _+_, _≤_, _<_}
+use Prim.Native.Nat.{ℕ, _+_, _-_, _≤_, _<_}
 use native.Mathlib.Omega.{arith}
-use borrow.Author.Tests.{leb-true}
-use lib.Dec.{ltb, leb}
 use lib.ListN.{length}
-use Rattle.capture.proofs.Check.{longest}
-use Rattle.capture.specs.Capture.{isCapture, countIn, lengthIn}
-use Rattle.capture.specs.Walk.{hasRow, stepAt}
+use Rattle.capture.proofs.Steps.{shown}
+use Rattle.capture.specs.Walk.{hasRow, seenBad, stepAt}
 use Rattle.capture.specs.declared.Step.{Step}
 use Rattle.key.proofs.Keys.{key-given}
 use Rattle.names.proofs.Escaping.{escape-length}
-use Rattle.key.specs.Key.{Parts, readKey, makerOf, deviceOf}
+use Rattle.key.specs.Key.{Parts, readKey, foundOf}
+use Rattle.key.specs.declared.Found.{Found}
+use Rattle.names.specs.Names.{escape}
 use Rattle.packed.proofs.Choice.{chosen}
-use Rattle.packed.specs.Packed.{RowFits}
+use Rattle.packed.specs.Packed.{keyNumber, readNumber, RowFits}
 use Rattle.sheet.proofs.Lengths.{at-most-145}
 use Rattle.sheet.proofs.Names.{both, InSheet, part-in}
 use Rattle.sheet.specs.Block.{Part, ofService, ofFactory, goodSheets, partOf, locatedBy, locatedOf}
 use Rattle.sheet.specs.declared.Located.{Located}
 
--- the parts that a reader shows of a key, escaped
-pub read-most : (k : List ℕ) → (length (makerOf (readKey k)) ≤ 64) × (length (deviceOf (readKey k)) ≤ 64)
-read-most k = go (readKey k) refl
+-- the places that are found in a key rise, within its longest names, escaped
+pub found-most : (k : List ℕ) {f : Found} → f ≡ foundOf (readKey k) → (f .«maker_end» ≤ f .«device_start») × (f .«device_start» ≤ f .«device_end») × (f .«device_end» ≤ 129)
+found-most k {f} e = go (readKey k) refl e
   where
-    go : (o : Option Parts) → readKey k ≡ o → (length (makerOf o) ≤ 64) × (length (deviceOf o) ≤ 64)
-    go none e = (omega arith, omega arith)
-    go (some p) e =
-        let f = key-given k p e .0 in
-        (omega (arith, escape-length (p .maker), f .maker-fits), omega (arith, escape-length (p .device), f .device-fits))
+    go : (o : Option Parts) → readKey k ≡ o → f ≡ foundOf o → (f .«maker_end» ≤ f .«device_start») × (f .«device_start» ≤ f .«device_end») × (f .«device_end» ≤ 129)
+    go none g h = rw h (omega arith, omega arith, omega arith)
+    go (some p) g h =
+        let fit = key-given k p g .0 in
+        rw h (omega arith, omega arith, omega (arith, escape-length (p .maker), escape-length (p .device), fit))
+
+-- what is packed of a found key is what is packed of a read one
+pub found-number : (o : Option Parts) {f : Found} → f ≡ foundOf o → keyNumber (record { answer = f .answer; date = f .date; serial = f .serial }) (f .«maker_end») (f .«device_end» - f .«device_start») ≡ readNumber o
+found-number none e = rw e
+found-number (some p) e =
+    let z : length (escape (p .maker)) + 1 + length (escape (p .device)) - (length (escape (p .maker)) + 1) ≡ length (escape (p .device)) = omega arith in
+    rw (e, z)
 
 -- a block name lies within the longest sheet
 module _ (s f : List ℕ) (tag : ℕ) where
@@ -51,8 +57,5 @@ unfolding stepAt
 step-most s row place is =
     subst (RowFits place) (sym is)
     (chosen (RowFits place) (hasRow s row place)
-    (λ h.
-    let b = and-eq-true-iff (isCapture s && ltb row (countIn s)) (leb (place + lengthIn s row) (length s)) .0 h in
-    let c = and-eq-true-iff (isCapture s) (ltb row (countIn s)) .0 (b .0) .0 in
-    (omega arith, omega (arith, leb-true (place + lengthIn s row) (length s) (b .1), longest s c)))
-    (λ h. chosen (RowFits place) (isCapture s) (λ i. tt) (λ i. tt)))
+    (λ h. let r = shown s row place h in (omega arith, omega (arith, r .within, r .most)))
+    (λ h. chosen (RowFits place) (seenBad s row place) (λ i. tt) (λ i. tt)))

@@ -2,7 +2,7 @@
 use Prim.Native.Nat.{ℕ}
 use lib.IntN.{ℤ}
 use Rattle.pack.specs.declared.Sample.{Sample}
-use Rattle.pack.specs.declared.Setup.{Setup}
+use Rattle.start.specs.declared.Setup.{Setup}
 
 abbrev pub sampleWith : ℕ → ℤ → ℕ → ℕ → Sample
 sampleWith voltage current temperature counter =

@@ -5,7 +5,7 @@ ghost use Rattle.capture.specs.Walk.{openedOf, stepAt};
 ghost use Rattle.key.specs.Key as keys;
 ghost use Rattle.key_writer.specs.Writing as writing;
 ghost use Rattle.names.specs.Names as names;
-ghost use Rattle.pack.specs.SetUp.{setUpOf};
+ghost use Rattle.start.specs.SetUp.{setUpOf};
 ghost use Rattle.packed.specs.Packed.{checkNumber, comparisonNumber, wroteNumber, openedNumber, readNumber, locatedNumber, stepNumber};
 ghost use Rattle.pec.specs.Messages.{exchangeCheck, bitComparison};
 ghost use Rattle.pec.specs.Pec.{pecOf};
@@ -13,8 +13,9 @@ ghost use Rattle.sheet.specs.Block.{locatedOf};
 ghost use Rattle.sheet.specs.Sheet.{isSheet};
 ghost use Rattle.sheet_writer.specs.Writing as sheets;
 ghost use Rattle.snatchblock.specs.Given.{sampleWith, setupWith};
+use key::Read;
 use pack::Sample;
-use pack::Setup;
+use start::Setup;
 
 // ---- messages
 
@@ -59,10 +60,13 @@ pub extern "C" fn snatchblock_write_key(
 pub extern "C" fn snatchblock_read_key(key: &[u8]) -> u64
     ensures { λ r. ⌜ r ≡ readNumber (keys.readKey (now (key .entry))) ⌝ }
 {
-    let read = key::read_key(key);
-    let maker = key::maker_part(key);
-    let device = key::device_part(key);
-    packed::key_read(read, maker.len(), device.len())
+    let f = key::find(key);
+    let read = Read {
+        answer: f.answer,
+        date: f.date,
+        serial: f.serial,
+    };
+    packed::key_read(read, f.maker_end, f.device_end - f.device_start)
 }
 
 #[no_mangle]

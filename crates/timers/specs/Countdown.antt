@@ -6,11 +6,11 @@ use lib.Dec.{eqb}
 use Rattle.pack.specs.declared.Host.{Host}
 use Rattle.pack.specs.declared.Timers.{Timers}
 
--- the hold counts down by elapsed
+-- the hold counts down by elapsed (RULES 7.5)
 abbrev pub holdAfter : Timers → ℕ → ℕ
 holdAfter t elapsed = t .hold - elapsed
 
--- at 0 the bit clears
+-- at 0 the bit clears (RULES 7.5)
 abbrev pub hostAfter : Host → ℕ → Host
 hostAfter h hold =
     record {
@@ -23,7 +23,7 @@ hostAfter h hold =
       CapacityMode = h .CapacityMode;
     }
 
--- the alarm timer stops counting at 10,000; the charger timer at 30,000, where its words go; while CHARGER_MODE is set it stands at 0
+-- the alarm timer stops counting at 10,000; the charger timer at 30,000, where its words go; while CHARGER_MODE is set it stands at 0 (RULES 7.5, 7.6)
 abbrev pub timersAfter : Timers → Bool → ℕ → Timers
 timersAfter t chargerMode elapsed =
     record {
@@ -32,7 +32,7 @@ timersAfter t chargerMode elapsed =
       charger = cond chargerMode 0 (min 30000 (t .charger + elapsed));
     }
 
--- a timer restarts at 0 when its words go
+-- a timer restarts at 0 when its words go (RULES 8.6)
 abbrev pub restartedOf : Timers → Bool → Bool → Timers
 restartedOf t alarmGoes chargerGoes =
     record { hold = t .hold; alarm = cond alarmGoes 0 (t .alarm); charger = cond chargerGoes 0 (t .charger) }

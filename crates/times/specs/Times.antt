@@ -9,19 +9,19 @@ use Rattle.capacity.specs.Capacity.{minutesOf, powerOf}
 use Rattle.registers.specs.Registers.{remainingCapacity, fullChargeCapacity}
 use Rattle.words.specs.Words.{above, below, sizeOf}
 
--- minutes if the rate flows the command's way, else 65,535
+-- minutes if the rate flows the command's way, else 65,535 (RULES 6.5)
 abbrev pub minutesIf : Bool → ℕ → ℕ → ℕ
 minutesIf flows capacity rate = cond flows (minutesOf capacity rate) 65535
 
--- 06 AtRateTimeToEmpty: AtRate below 0, on remaining
+-- 06 AtRateTimeToEmpty: AtRate below 0, on remaining (RULES 6.7)
 abbrev pub atRateTimeToEmpty : Pack → ℕ
 atRateTimeToEmpty p = minutesIf (below (p .host .AtRate)) (remainingCapacity p) (sizeOf (p .host .AtRate))
 
--- full minus remaining, of the words 10 and 0F
+-- full minus remaining, of the words 10 and 0F (RULES 6.5)
 abbrev pub missing : Pack → ℕ
 missing p = fullChargeCapacity p - remainingCapacity p
 
--- 05 AtRateTimeToFull: AtRate above 0, on full minus remaining, mAh only
+-- 05 AtRateTimeToFull: AtRate above 0, on full minus remaining, mAh only (RULES 6.6)
 abbrev pub atRateTimeToFull : Pack → ℕ
 atRateTimeToFull p = cond (p .host .CapacityMode) 65535 (minutesIf (above (p .host .AtRate)) (missing p) (sizeOf (p .host .AtRate)))
 
@@ -30,33 +30,33 @@ abbrev pub presentDischarge : Pack → ℕ
 presentDischarge p = cond (below (p .latest .current)) (sizeOf (p .latest .current)) 0
 
 -- charge covers 10 s of |AtRate| plus any present discharge; a 10 mW rate counts as 10,000 × rate ÷ design voltage mA,
--- compared without rounding: both sides times the design voltage
+-- compared without rounding: both sides times the design voltage (RULES 6.8)
 abbrev pub covers : Pack → Bool
 covers p =
     cond (p .host .CapacityMode)
     (leb (10000 * (10000 * sizeOf (p .host .AtRate) + presentDischarge p * p .settings .DesignVoltage)) (p .tank .charge * p .settings .DesignVoltage))
     (leb (10000 * (sizeOf (p .host .AtRate) + presentDischarge p)) (p .tank .charge))
 
--- 07 AtRateOK: 1 if AtRate is 0 or above; below 0, 1 exactly if charge covers
+-- 07 AtRateOK: 1 if AtRate is 0 or above; below 0, 1 exactly if charge covers (RULES 6.8)
 abbrev pub atRateOK : Pack → ℕ
 atRateOK p = cond (below (p .host .AtRate)) (cond (covers p) 1 0) 1
 
--- a current's rate: mA; in power mode floor(|mA| × mV ÷ 10,000), with the latest voltage
+-- a current's rate: mA; in power mode floor(|mA| × mV ÷ 10,000), with the latest voltage (RULES 6.17)
 abbrev pub rateOf : Pack → ℕ → ℕ
 rateOf p current = cond (p .host .CapacityMode) (powerOf (sizeOf current) (p .latest .voltage)) (sizeOf current)
 
--- minutes until empty at a current, as 06
+-- minutes until empty at a current, as 06 (RULES 6.16)
 abbrev pub timeToEmptyAt : Pack → ℕ → ℕ
 timeToEmptyAt p current = minutesIf (below current) (remainingCapacity p) (rateOf p current)
 
--- 11 RunTimeToEmpty: from present current
+-- 11 RunTimeToEmpty: from present current (RULES 6.16)
 abbrev pub runTimeToEmpty : Pack → ℕ
 runTimeToEmpty p = timeToEmptyAt p (p .latest .current)
 
--- 12 AverageTimeToEmpty: from the mean
+-- 12 AverageTimeToEmpty: from the mean (RULES 6.16)
 abbrev pub averageTimeToEmpty : Pack → ℕ
 averageTimeToEmpty p = timeToEmptyAt p (averageOf (p .recent))
 
--- 13 AverageTimeToFull: from the mean, on full minus remaining, as 05
+-- 13 AverageTimeToFull: from the mean, on full minus remaining, as 05 (RULES 6.16)
 abbrev pub averageTimeToFull : Pack → ℕ
 averageTimeToFull p = minutesIf (above (averageOf (p .recent))) (missing p) (rateOf p (averageOf (p .recent)))

@@ -1,4 +1,4 @@
--- 16-bit words: their two bytes, and the signed number that one stands for.
+-- Document 01, Transactions and Registers: 16-bit words, their two bytes, and the signed number that one stands for.
 -- Assumes nothing.
 use Prim.Native.Nat.{ℕ, _+_, _-_, _*_, _/_, _%_, _<_}
 use mathlib.Core.Bool.{Bool, cond, _&&_}
@@ -29,7 +29,7 @@ above w = ltb 0 w && ltb w 32768
 abbrev pub below : ℕ → Bool
 below w = leb 32768 w
 
--- the size of a signed word: 32,768 for 0x8000
+-- the size of a signed word: 32,768 for 0x8000 (RULES 6.5)
 abbrev pub sizeOf : ℕ → ℕ
 sizeOf w = cond (below w) (65536 - w) w
 

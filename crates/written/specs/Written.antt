@@ -11,7 +11,7 @@ use Rattle.pack.specs.declared.Timers.{Timers}
 abbrev pub bitSet : ℕ → ℕ → Bool
 bitSet k word = eqb (word / 2 ^ k % 2) 1
 
--- 00, 01, 02 and 04 keep the written word; of 03 only bits 13 ALARM_MODE, 14 CHARGER_MODE, 15 CAPACITY_MODE take effect
+-- 00, 01, 02 and 04 keep the written word; of 03 only bits 13 ALARM_MODE, 14 CHARGER_MODE, 15 CAPACITY_MODE take effect (RULES 6.1 to 6.4)
 unfoldable pub hostWritten : Host → ℕ → ℕ → Host
 hostWritten h command word =
     record {
@@ -24,7 +24,7 @@ hostWritten h command word =
       CapacityMode = cond (eqb command 0x03) (bitSet 15 word) (h .CapacityMode);
     }
 
--- a write to 03 with bit 13 set starts a 60,000 ms hold, with bit 13 clear ends it; while bit 14 is set the charger timer stands at 0
+-- a write to 03 with bit 13 set starts a 60,000 ms hold, with bit 13 clear ends it; while bit 14 is set the charger timer stands at 0 (RULES 7.7)
 unfoldable pub timersWritten : Timers → ℕ → ℕ → Timers
 timersWritten t command word =
     record {

@@ -1,4 +1,3 @@
-use Prim.Native.Nat.{_+_}
 use borrow.Author.Needs.{needs}
 use native.Mathlib.Omega.{arith}
 use Rattle.broadcasts.proofs.put_if.Statement.{statement}

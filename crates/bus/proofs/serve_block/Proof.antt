@@ -8,7 +8,6 @@ use native.Mathlib.Omega.{arith}
 use borrow.Author.Needs.{needs}
 use lib.ListN.{length}
 use Rattle.bus.specs.Transact.{outcome}
-use Rattle.bus.specs.declared.Transacted.{Transacted}
 use Rattle.commands.specs.Answers.{served}
 use Rattle.frame.specs.Transactions.{replyOf, blockBody}
 use Rattle.pack.specs.declared.State.{State}

@@ -2,12 +2,12 @@
 -- Assumes nothing.
 use borrow.Author.Needs.{needs}
 use native.Mathlib.Omega.{arith}
-use mathlib.Core.Path.{sym, ap, _∙_}
+use mathlib.Core.Path.{ap, _∙_}
 use lib.ListN.{length}
 use Rattle.area.proofs.Whole.{area-size}
-use Rattle.calls.proofs.Areas.{an-area, transact-count, transact-most, transact-none, transact-done}
+use Rattle.calls.proofs.Areas.{an-area, transact-most, transact-none, transact-done}
+use Rattle.calls.proofs.Stores.{kept}
 use Rattle.bus.specs.declared.Transacted.{Transacted}
-use Rattle.calls.specs.Calls.{stays}
 use Rattle.calls.proofs.transact.Statement.{statement}
 use Rattle.calls.proofs.transact.Tie as tie
 
@@ -16,16 +16,10 @@ returns c =
     let a = c .before .before .before .before .before .before .before .before .before .args in
     transact-none (a .area .now) (a .service .now) (a .factory .now) (a .read) (a .bytes .now) (a .room .now) (c .before .before .load .ensures .0) (c .if1 .taken)
 
-keep-requires : tie.Need-keep-requires
-keep-requires c κs =
+keep-transacted-requires : tie.Need-keep-transacted-requires
+keep-transacted-requires c κs =
     let a = c .before .before .before .before .before .before .before .before .before .before .before .before .before .before .args in
-    let out = c .before .before .before .transact .ensures .0 in
-    let held = c .before .before .before .before .before .before .before .load in (
-      area-size (a .area .now) (an-area (a .area .now) (held .ensures .0) (c .before .before .before .before .before .if1 .left) .0),
-      λ h.
-          let count = transact-count (held .result .state) (a .service .now) (a .factory .now) (a .read) (a .bytes .now) (length (a .room .now)) (sym (ap (λ (q : Transacted). stays (q .answer)) out) ∙ h) in
-          omega (arith, ap (λ (q : Transacted). q .state .pack .recent .count) out, count),
-    )
+    area-size (a .area .now) (an-area (a .area .now) (c .before .before .before .before .before .before .before .load .ensures .0) (c .before .before .before .before .before .if1 .left) .0)
 
 pack-up-requires : tie.Need-pack-up-requires
 pack-up-requires c κs =
@@ -36,8 +30,11 @@ pack-up-requires c κs =
 returns-2 : tie.Need-returns-2
 returns-2 c =
     let a = c .before .before .before .before .before .before .before .before .before .before .before .before .before .before .before .before .before .before .args in
+    let held = c .before .before .before .before .before .before .before .before .before .before .before .load in
+    let is = c .before .before .before .before .before .before .before .before .before .if1 .left in
     let out = c .before .before .before .before .before .before .before .transact .ensures in
-    transact-done (a .area .now) (a .service .now) (a .factory .now) (a .read) (a .bytes .now) (a .room .now) (c .before .before .before .before .before .before .before .before .before .before .before .load .ensures .0) (c .before .before .before .before .before .before .before .before .before .if1 .left) (out .0) (out .1) (c .before .before .before .keep .ensures) (c .pack-up .ensures)
+    let stored = kept (held .result .state) (a .service .now) (a .factory .now) (a .bytes .now) (length (a .room .now)) (a .read) (held .ensures .1 is) (out .0) in
+    transact-done (a .area .now) (a .service .now) (a .factory .now) (a .read) (a .bytes .now) (a .room .now) (held .ensures .0) is (out .0) (out .1) (c .before .before .before .keep-transacted .ensures ∙ stored) (c .pack-up .ensures)
 
 pub transact-spec : {M : Type 1} → statement M
-transact-spec = tie.close (tie.spec (λ c κs. search needs) (λ c. search needs) returns (λ c κs. search needs) keep-requires pack-up-requires (λ c. search needs) (λ c. search needs) returns-2)
+transact-spec = tie.close (tie.spec (λ c κs. search needs) (λ c. search needs) returns (λ c κs. search needs) keep-transacted-requires pack-up-requires (λ c. search needs) (λ c. search needs) returns-2)

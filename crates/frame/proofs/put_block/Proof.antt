@@ -1,13 +1,13 @@
 -- `frame::put_block` meets its contract: count, bytes and PEC are stores in a row.
 -- Assumes nothing.
-use mathlib.Core.Path.{_≡_, refl, ap, _∙_}
+use mathlib.Core.Path.{_≡_, ap, _∙_}
 use mathlib.Core.List.{List, [], _∷_, _++_}
-use Prim.Native.Nat.{ℕ, suc, _+_, _≤_}
+use Prim.Native.Nat.{ℕ, _+_}
 use native.Mathlib.Omega.{arith}
 use borrow.Author.Needs.{needs}
 use lib.ListN.{length, length-set}
 use lib.Seq.{sets, length-sets}
-use Rattle.pec.specs.Pec.{pecFrom, pecOf}
+use Rattle.pec.specs.Pec.{pecFrom}
 use Rattle.rooms.proofs.Rooms.{then, front}
 use Rattle.frame.specs.Transactions.{blockBody, replyOf}
 use Rattle.frame.proofs.Replies.{reply-length, block-check}

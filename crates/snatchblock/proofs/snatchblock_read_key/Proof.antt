@@ -2,21 +2,22 @@
 -- Assumes nothing.
 use borrow.Author.Needs.{needs}
 use native.Mathlib.Omega.{arith}
-use mathlib.Core.Path.{ap}
-use mathlib.Core.List.{List}
-use Prim.Native.Nat.{ℕ}
-use lib.ListN.{length}
-use Rattle.snatchblock.proofs.Parts.{read-most}
+use mathlib.Core.Path.{_∙_}
+use Rattle.key.specs.Key.{readKey}
+use Rattle.snatchblock.proofs.Parts.{found-most, found-number}
 use Rattle.snatchblock.proofs.snatchblock_read_key.Statement.{statement}
 use Rattle.snatchblock.proofs.snatchblock_read_key.Tie as tie
 
+sub-key-read : tie.Need-sub-key-read
+sub-key-read c = omega (arith, found-most (c .before .before .before .args .key .now) (c .before .find .ensures))
+
 key-read-requires : tie.Need-key-read-requires
 key-read-requires c κs =
-    let most = read-most (c .before .before .before .before .args .key .now) in
-    (omega (arith, ap (λ (l : List ℕ). length l) (c .before .maker-part .ensures .0), most .0), omega (arith, ap (λ (l : List ℕ). length l) (c .device-part .ensures .0), most .1))
+    let most = found-most (c .before .before .before .args .key .now) (c .before .find .ensures) in
+    (omega (arith, most), omega (arith, most))
 
 returns : tie.Need-returns
-returns c = rw (c .key-read .ensures, c .before .device-part .ensures .0, c .before .before .maker-part .ensures .0, c .before .before .before .read-key .ensures)
+returns c = c .key-read .ensures ∙ found-number (readKey (c .before .before .before .before .args .key .now)) (c .before .before .find .ensures)
 
 pub snatchblock-read-key-spec : {M : Type 1} → statement M
-snatchblock-read-key-spec = tie.close (tie.spec (λ c κs. search needs) (λ c κs. search needs) (λ c κs. search needs) key-read-requires returns)
+snatchblock-read-key-spec = tie.close (tie.spec (λ c κs. search needs) sub-key-read key-read-requires returns)

@@ -3,9 +3,9 @@
 use borrow.Author.Needs.{needs}
 use mathlib.Core.Path.{ap, _∙_}
 use Rattle.calls.specs.Calls.{startNumber, startArea}
-use Rattle.pack.specs.SetUp.{setUpOf}
+use Rattle.start.specs.SetUp.{setUpOf}
 use Rattle.pack.specs.declared.Sample.{Sample}
-use Rattle.pack.specs.declared.Setup.{Setup}
+use Rattle.start.specs.declared.Setup.{Setup}
 use Rattle.snatchblock.proofs.Handed.{same-sample}
 use Rattle.snatchblock.specs.Given.{setupWith}
 use Rattle.snatchblock.proofs.snatchblock_set_up.Statement.{statement}

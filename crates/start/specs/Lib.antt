@@ -1,0 +1,4 @@
+pub mod SetUp
+pub mod Facts
+pub mod Fits
+pub mod Promises
