@@ -1,35 +1,28 @@
 /*
- * The pack for programs in C: link libsnatchblock.a (`rt staticlib snatchblock`, x86-64 Linux).
+ * Snatchblock: the software of a smart battery pack (Smart Battery Data Specification 1.1), for firmware in C11 or C++.
  *
- * Slices. A pair of a pointer and a length is a lent slice, read or written only during the call. A pointer is never
- * null, not even for a length of 0: for no bytes give the address of any byte and the length 0. Every length is
- * allowed. What is lent for writing (a pointer without const) overlaps nothing else lent to the same call; slices lent
- * for reading may overlap each other. A bool is 0 or 1.
+ * A firmware lends an area of SNATCHBLOCK_AREA bytes. It sets the area up once (snatchblock_set_up_from), brings a
+ * sample each second (snatchblock_sample_from) and hands over what the bus driver heard (snatchblock_transact).
+ * examples/firmware/pack.c does so and can be copied. All else here is for tools: keys, sheets, captures.
  *
- * Answers. A result of several numbers is one unsigned integer with the answer number in bits 0 to 7; the rest stands
- * above it, in the bits named below, and is 0 where the call is refused. A refused call writes no byte of a room, and
- * of the area only what snatchblock_transact says.
+ * To link: libsnatchblock.a alone (`rt staticlib snatchblock`; x86-64 Linux today). It calls the C library's memcpy and
+ * nothing else. It has no heap, no variables and no start: all that it knows lies in what a call lends.
  *
- * The area. The pack's state lies in SNATCHBLOCK_AREA bytes: the error code, then each part at its place (named below),
- * each number low byte first, a flag 1 or 0; a firmware may keep them in RAM or in EEPROM:
+ * Units: mV; mA, signed, above 0 charges; capacities mAh, in power mode 10 mWh; charge mA·ms; temperatures 0.1 K
+ * (0 °C is 2731.5); times on the bus minutes; the counter ms. A date is (year - 1980) * 512 + month * 32 + day.
+ * Words on the bus and numbers in the area stand low byte first, signed ones in two's complement. Message bytes,
+ * commands and tags are written in hex here.
  *
- *   part      from   at  bytes
- *                0    0      1  error code
- *   SETTINGS     1    0  9 x 2  DesignCapacity, DesignVoltage, MaxError, ManufactureDate, SerialNumber, ChargingCurrent,
- *                               ChargingVoltage, TemperatureLimit, DischargeLimit
- *   HOST        19    0  4 x 2  ManufacturerAccess, RemainingCapacityAlarm, RemainingTimeAlarm, AtRate
- *                     8  3 x 1  flags: AlarmMode, ChargerMode, CapacityMode
- *   LATEST      30    0  3 x 2  the latest sample's voltage, current, temperature
- *                     6      4  its counter
- *   TANK        40    0      8  charge
- *                     8  2 x 2  full capacity, CycleCount
- *                    12      1  flag: FullyDischarged
- *   TIMERS      53    0  3 x 4  hold, alarm timer, charger timer
- *   RECENT      65    0 60 x 2  the currents of the kept samples, newest first
- *                   120      1  how many are kept
+ * Slices: a pointer and the length after it are bytes lent for the call. No pointer is null, not even at length 0: give
+ * the address of any byte there. Every length and every address is allowed, with no alignment. What is lent for writing
+ * (a pointer without const) overlaps nothing else lent to that call. A bool is 0 or 1.
  *
- * Bytes of another number, or with a flag byte above 1, are no area: they are answered 1 and left as they are. So is
- * an area whose state isn't sound.
+ * One call at a time on one area. If transactions come from an interrupt, mask it around every call, and every copy of
+ * the area, that the loop makes; the bus hardware holds the clock meanwhile. Calls on other areas may run beside it.
+ *
+ * Stack, in bytes, the most that was measured of each (`make bench`, x86-64; nothing proves it): transact 2,296;
+ * read_key 1,752; unescape 1,656; sample 1,128; sound 440; exchange_check 312; pec 280; write_sheet 128; set_up 112;
+ * block 104; write_key 56; bit_comparison, is_sheet, open_capture, step_capture 16.
  */
 #ifndef SNATCHBLOCK_H
 #define SNATCHBLOCK_H
@@ -42,7 +35,112 @@
 extern "C" {
 #endif
 
-/* Where each part of an area starts, and the bytes of an area. */
+/* ---- answers */
+
+/*
+ * The lowest number whose condition holds is given, 0 where none does. 0 and 10 are served, all others are refusals.
+ * 1 to 3 leave the error code that BatteryStatus shows; 0 leaves 0, 4 to 10 the code in brackets.
+ */
+enum snatchblock_answer {
+    SNATCHBLOCK_SERVED = 0,
+    SNATCHBLOCK_NOT_SOUND = 1,         /* no area, or its state isn't sound */
+    SNATCHBLOCK_SMALL_ROOM = 2,        /* a room for a reply under 34 bytes, for broadcasts under 16 */
+    SNATCHBLOCK_OTHER_ADDRESS = 3,     /* no bytes, or the first isn't 16 */
+    SNATCHBLOCK_WRONG_FORM = 4,        /* wrong size or form (6, BadSize) */
+    SNATCHBLOCK_WRONG_PEC = 5,         /* a write of five bytes, its PEC wrong (7, UnknownError) */
+    SNATCHBLOCK_RESERVED_COMMAND = 6,  /* (2, ReservedCommand) */
+    SNATCHBLOCK_COMMAND_NOT_BUILT = 7, /* an optional command that this pack hasn't (3, UnsupportedCommand) */
+    SNATCHBLOCK_READ_ONLY = 8,         /* a write to what is only read (4, AccessDenied) */
+    SNATCHBLOCK_BAD_SHEET = 9,         /* a block read, and one of the two sheets is none (7) */
+    SNATCHBLOCK_SERVED_FFFF = 10,      /* AtRateTimeToFull in power mode: FF FF and PEC (5, Overflow/Underflow) */
+    SNATCHBLOCK_BAD_SET_UP = 11,       /* DesignCapacity, full or DesignVoltage is 0, or remaining is above full */
+    SNATCHBLOCK_NO_FIT = 12,           /* a name or body over 32 bytes, or a room too short for what is to be written */
+    SNATCHBLOCK_NOT_A_KEY = 13,
+    SNATCHBLOCK_NOT_A_CAPTURE = 14,
+    SNATCHBLOCK_WRONG_LENGTH = 15 /* an exchange outside 2 to 37 bytes; a comparison of unequal lengths or over 37 */
+};
+
+/*
+ * A result of several numbers is one unsigned integer; a refusal has 0 above its answer. A refused call writes no byte
+ * of a room, and of the area only what snatchblock_transact says.
+ *
+ *   result of                         bits: what stands there
+ *   all these, and set_up             0-7: the answer
+ *   sample, transact, write_key,
+ *     unescape, write_sheet           8-31: the bytes written to the front of the room; the rest of it stays
+ *   exchange_check                    8: right
+ *   bit_comparison                    8-31: bits that differ
+ *   read_key                          8-15: maker's length   16-23: device's length   24-39: date   40-55: serial
+ *   block                             8-15: length   16-31: offset   32: in the factory sheet
+ *   open_capture                      8-15: rows   16-31: place of the first body
+ *   step_capture                      8: there is a row   9: a read   16-23: length   32-63: place of the next body
+ */
+static inline enum snatchblock_answer snatchblock_answer_of(uint64_t result)
+{
+    return (enum snatchblock_answer)(result & 0xFFu);
+}
+static inline bool snatchblock_served(uint64_t result) { return (result & 0xFFu) == 0 || (result & 0xFFu) == 10; }
+static inline size_t snatchblock_length_of(uint32_t result) { return (size_t)(result >> 8); }
+
+static inline bool snatchblock_check_right(uint32_t result) { return (result >> 8 & 1u) != 0; }
+static inline uint32_t snatchblock_comparison_bits(uint32_t result) { return result >> 8; }
+
+/* The maker part starts at byte 0 of the key, the device part one byte after the maker part ends. */
+static inline size_t snatchblock_key_maker_length(uint64_t result) { return (size_t)(result >> 8 & 0xFFu); }
+static inline size_t snatchblock_key_device_offset(uint64_t result) { return (size_t)(result >> 8 & 0xFFu) + 1; }
+static inline size_t snatchblock_key_device_length(uint64_t result) { return (size_t)(result >> 16 & 0xFFu); }
+static inline uint16_t snatchblock_key_date(uint64_t result) { return (uint16_t)(result >> 24 & 0xFFFFu); }
+static inline uint16_t snatchblock_key_serial(uint64_t result) { return (uint16_t)(result >> 40 & 0xFFFFu); }
+
+static inline size_t snatchblock_block_length(uint64_t result) { return (size_t)(result >> 8 & 0xFFu); }
+static inline size_t snatchblock_block_offset(uint64_t result) { return (size_t)(result >> 16 & 0xFFFFu); }
+static inline bool snatchblock_block_in_factory(uint64_t result) { return (result >> 32 & 1u) != 0; }
+
+static inline size_t snatchblock_capture_rows(uint32_t result) { return (size_t)(result >> 8 & 0xFFu); }
+static inline size_t snatchblock_capture_first(uint32_t result) { return (size_t)(result >> 16); }
+static inline bool snatchblock_step_is_row(uint64_t result) { return (result >> 8 & 1u) != 0; }
+static inline bool snatchblock_step_is_read(uint64_t result) { return (result >> 9 & 1u) != 0; }
+static inline size_t snatchblock_step_length(uint64_t result) { return (size_t)(result >> 16 & 0xFFu); }
+static inline size_t snatchblock_step_next(uint64_t result) { return (size_t)(result >> 32); }
+
+/* ---- the area, and how to keep it */
+
+/*
+ * The version of the area. Every version has its own length, so that an area of another one is answered 1.
+ * Bytes with a flag above 1 or with a state that isn't sound are answered 1 too, and left as they are.
+ *
+ * What is stored when, for an area in EEPROM: answers 1 to 3 don't touch it; 4 to 9 and every read store its first byte
+ * alone, a served write that byte, HOST and TIMERS; a sample and a set-up store all of it.
+ *
+ * Stored bytes rot, and snatchblock_sound is no test for that. Keep the area's PEC beside it (snatchblock_pec of its 186
+ * bytes). Take the area back only if its PEC matches and it is sound: bytes that are all 0 have the PEC 0, and aren't
+ * sound. Else set the pack up anew. Proved of these 187 bytes: the PEC shows every odd number of altered bits, all
+ * damage within eight neighbouring bits, and two altered bits unless they stand a multiple of 127 apart. Two bits that
+ * do are not seen. Of damage in other even numbers of bits about one in 128 is not seen (measured by tests/c/storage.c).
+ * A store that the power cuts short is such damage: where that can happen keep two copies, and store them in turn.
+ *
+ * After storage, and whenever the counter started anew: the first sample has current 0 (see snatchblock_sample).
+ */
+#define SNATCHBLOCK_VERSION 1
+
+/*
+ * The bytes of an area: the error code, then each part at its place. A flag is one byte, 1 or 0.
+ *
+ *   part      from   at  bytes
+ *                0    0      1  error code
+ *   SETTINGS     1    0  9 x 2  DesignCapacity, DesignVoltage, MaxError, ManufactureDate, SerialNumber, ChargingCurrent,
+ *                               ChargingVoltage, TemperatureLimit, DischargeLimit
+ *   HOST        19    0  4 x 2  ManufacturerAccess, RemainingCapacityAlarm, RemainingTimeAlarm, AtRate
+ *                     8  3 x 1  flags: AlarmMode, ChargerMode, CapacityMode
+ *   LATEST      30    0  3 x 2  the latest sample's voltage, current, temperature
+ *                     6      4  its counter
+ *   TANK        40    0      8  charge
+ *                     8  2 x 2  full capacity, CycleCount
+ *                    12      1  flag: FullyDischarged
+ *   TIMERS      53    0  3 x 4  hold, alarm timer, charger timer, in ms
+ *   RECENT      65    0 60 x 2  the currents of the kept samples, newest first
+ *                   120      1  how many are kept
+ */
 #define SNATCHBLOCK_SETTINGS 1
 #define SNATCHBLOCK_HOST (SNATCHBLOCK_SETTINGS + 18)
 #define SNATCHBLOCK_LATEST (SNATCHBLOCK_HOST + 11)
@@ -51,25 +149,45 @@ extern "C" {
 #define SNATCHBLOCK_RECENT (SNATCHBLOCK_TIMERS + 12)
 #define SNATCHBLOCK_AREA (SNATCHBLOCK_RECENT + 121)
 
-/* Room that is always enough: of a sample's broadcasts, a transaction's reply, a key, a sheet. Less is refused. */
+/* Room that is always enough: for a sample's broadcasts, a transaction's reply, a key, a sheet. Less is refused. */
 #define SNATCHBLOCK_BROADCAST_ROOM 16
 #define SNATCHBLOCK_REPLY_ROOM 34
 #define SNATCHBLOCK_KEY_ROOM 139
 #define SNATCHBLOCK_SHEET_ROOM 145
 
-/* The answer number of any packed result. */
-#define SNATCHBLOCK_ANSWER(result) ((unsigned)((result) & 0xFFu))
+/* Whether bytes are an area and its state is sound. */
+bool snatchblock_sound(const uint8_t *area, size_t area_length);
 
-/* The length of a result that has an answer and a length alone. */
-#define SNATCHBLOCK_LENGTH(result) ((size_t)((result) >> 8))
+/* ---- set-up */
 
-/* ---- the pack ---- */
+/* What the pack is. All but remaining, where the charge starts, stays as it is set up. A field that isn't given is 0. */
+struct snatchblock_setup {
+    uint16_t DesignCapacity;   /* mAh */
+    uint16_t full;             /* FullChargeCapacity, mAh */
+    uint16_t remaining;        /* RemainingCapacity, mAh */
+    uint16_t DesignVoltage;    /* mV */
+    uint16_t MaxError;         /* percent */
+    uint16_t CycleCount;
+    uint16_t ManufactureDate;  /* packed as above */
+    uint16_t SerialNumber;
+    uint16_t ChargingCurrent;  /* mA, what the charger is asked for */
+    uint16_t ChargingVoltage;  /* mV, likewise */
+    uint16_t TemperatureLimit; /* 0.1 K; above it OVER_TEMP is set */
+    uint16_t DischargeLimit;   /* mV; below it, while discharging, TERMINATE_DISCHARGE is set */
+};
+
+/* What the board measured, and when. */
+struct snatchblock_reading {
+    uint16_t voltage;     /* mV */
+    int16_t current;      /* mA, above 0 charges */
+    uint16_t temperature; /* 0.1 K */
+    uint32_t counter;     /* ms; runs on and wraps */
+};
 
 /*
- * Set-up with the first sample; capacities in mAh, the current signed in mA (positive charges), the counter in ms.
- * Answers 0: the area holds the new state, which is sound, whatever it held before. 1: the area isn't
- * SNATCHBLOCK_AREA bytes. 11: DesignCapacity, full or DesignVoltage is 0, or remaining is above full. 1 and 11 leave
- * the area as it was.
+ * Answers 0: the area holds the new state, which is sound, whatever it held before. 1: the area isn't SNATCHBLOCK_AREA
+ * bytes. 11: a bad set-up. 1 and 11 leave the area as it was. Call it by snatchblock_set_up_from, where each number has
+ * its name.
  */
 uint32_t snatchblock_set_up(uint8_t *area, size_t area_length, uint16_t DesignCapacity, uint16_t full,
                             uint16_t remaining, uint16_t DesignVoltage, uint16_t MaxError, uint16_t CycleCount,
@@ -77,68 +195,102 @@ uint32_t snatchblock_set_up(uint8_t *area, size_t area_length, uint16_t DesignCa
                             uint16_t ChargingVoltage, uint16_t TemperatureLimit, uint16_t DischargeLimit,
                             uint16_t voltage, int16_t current, uint16_t temperature, uint32_t counter);
 
-/* Whether bytes are an area and its state is sound. */
-bool snatchblock_sound(const uint8_t *area, size_t area_length);
+static inline uint32_t snatchblock_set_up_from(uint8_t *area, size_t area_length, const struct snatchblock_setup *setup,
+                                               const struct snatchblock_reading *first)
+{
+    return snatchblock_set_up(area, area_length, setup->DesignCapacity, setup->full, setup->remaining,
+                              setup->DesignVoltage, setup->MaxError, setup->CycleCount, setup->ManufactureDate,
+                              setup->SerialNumber, setup->ChargingCurrent, setup->ChargingVoltage,
+                              setup->TemperatureLimit, setup->DischargeLimit, first->voltage, first->current,
+                              first->temperature, first->counter);
+}
+
+/* ---- samples */
 
 /*
- * A sample. Answers 0: the area holds the state after it, and the due broadcasts stand at the front of the room, four
- * bytes each, without PEC; bits 8 to 31 have their bytes, 0 to 16. 1: no area, or not sound. 2: a room under 16 bytes.
- * 1 and 2 leave area and room as they were.
+ * A sample: charge grows by current x elapsed, and falls where the current is below 0. Bring one at least each second:
+ * an alarm then goes every 11 s at the latest. Answers 0, 1, 2; length_of has the broadcasts' bytes, 0 to 16. 1 and 2
+ * leave area and room as they were.
+ *
+ * A broadcast is a message of four bytes that the pack itself sends as the bus's master: address (10 the host, 12 the
+ * charger), command, low, high; no PEC. The driver sends them in their order. The specification allows none in the first
+ * 10 s after the bus came on: those the driver drops. A lost one isn't made up; the next comes 10 or 30 s later.
+ *
+ * Elapsed is the counter's reading minus the latest one, wrapping. It is the true time only if samples come under
+ * 2^32 ms (49.7 days) apart and the counter ran on between them. After storage, after a restart of the counter, in
+ * doubt: bring a sample with current 0 first. It is proved to change no charge, whatever its counter says, and the next
+ * sample counts from its reading. The hold and the two timers move by what the counter shows. Any other current there
+ * adds current x a wrong elapsed, up to 1,193 hours of it, and the pack reads empty or full.
  */
 uint32_t snatchblock_sample(uint8_t *area, size_t area_length, uint16_t voltage, int16_t current,
                             uint16_t temperature, uint32_t counter, uint8_t *room, size_t room_length);
 
+static inline uint32_t snatchblock_sample_from(uint8_t *area, size_t area_length,
+                                               const struct snatchblock_reading *reading, uint8_t *room,
+                                               size_t room_length)
+{
+    return snatchblock_sample(area, area_length, reading->voltage, reading->current, reading->temperature,
+                              reading->counter, room, room_length);
+}
+
+/* ---- transactions */
+
 /*
- * What the bus driver heard: the bytes, and its mark of a read. Bits 8 to 31 have the reply's bytes, which stand at the
- * front of the room, PEC last; 0 for a write. Answers 0: served. 1: no area, or not sound. 2: a room under 34 bytes.
- * 3: another address. 4: wrong size or form. 5: wrong PEC. 6: a reserved command. 7: an optional command that the pack
- * hasn't. 8: a write to what is only read. 9: a block read, and a sheet is bad. 10: AtRateTimeToFull in power mode,
- * served with FF FF and PEC. Answers 1 to 3 leave the area as it was; a refusal past 3 changes only the error code, the
- * first byte of the area. A refusal writes nothing to the room.
+ * What the driver heard, all bytes in order, and its mark. A read is 16 command 17 (the address, the command, the
+ * address with the read bit): call once that 17 came after the repeated start, and hold the clock until the reply is
+ * there. A write is 16 command low high, or 16 command low high PEC: call at the STOP. A message of another form is
+ * handed over as it came, to be refused.
+ *
+ * Answers 0 to 10. On 0 and 10 acknowledge; for a read send the room's first length_of bytes: low high PEC, or a block's
+ * count, its bytes, PEC. On any other answer send nothing, and don't acknowledge where the hardware still can; the host
+ * finds the error code in BatteryStatus. 1 to 3 leave the area as it was, 4 to 9 change only that code, its first byte.
+ * 1 is for the firmware: the area is lost. So is 2: its room is too small.
+ *
+ * Two sheets hold the names that block reads (20 to 23) show; the service sheet goes before the factory sheet. For no
+ * names lend the one byte 00, a sheet too. No bytes are no sheet: every block read is then answered 9.
+ *
+ * Whenever the bus comes on the specification wants BatteryMode at 0: hand over the write 16 03 00 00 then.
  */
 uint32_t snatchblock_transact(uint8_t *area, size_t area_length, const uint8_t *service, size_t service_length,
                               const uint8_t *factory, size_t factory_length, bool read, const uint8_t *bytes,
                               size_t bytes_length, uint8_t *room, size_t room_length);
 
-/* ---- messages ---- */
+/* ---- messages */
 
-/* The PEC of a message: CRC-8, x^8 + x^2 + x + 1, start 0, high bit first. */
+/* The PEC of bytes: CRC-8, x^8 + x^2 + x + 1, start 0, high bit first. A message's is over its address bytes too. */
 uint8_t snatchblock_pec(const uint8_t *bytes, size_t length);
 
-/* Whether an exchange ends in its PEC: bit 8. Answers 0; 15: under 2 or over 37 bytes. */
+/* Whether an exchange, what a host sent and then what it heard, ends in its PEC: check_right. Answers 0, 15. */
 uint32_t snatchblock_exchange_check(const uint8_t *bytes, size_t length);
 
-/* In how many bits two messages differ: bits 8 to 31. Answers 0; 15: unequal lengths, or over 37 bytes. */
+/* In how many bits two messages differ: comparison_bits. Answers 0, 15. */
 uint32_t snatchblock_bit_comparison(const uint8_t *a, size_t a_length, const uint8_t *b, size_t b_length);
 
-/* ---- keys ---- */
+/* ---- keys */
 
 /*
- * The key of a pack, at the front of the room; its length in bits 8 to 31, at most 139. Answers 0; 12: a name over
- * 32 bytes, or a room under 139.
+ * The key of a pack: both names with 5C before each 2F and 5C, date and serial as four hex digits, joined by 2F. Names
+ * of up to 32 bytes; length_of is at most 139. Answers 0; 12: a name over 32 bytes, or a room under 139.
  */
 uint32_t snatchblock_write_key(const uint8_t *maker, size_t maker_length, const uint8_t *device,
                                size_t device_length, uint16_t date, uint16_t serial, uint8_t *room,
                                size_t room_length);
 
-/*
- * The parts of a key: bits 8 to 15 the length of the maker part, which starts at byte 0; bits 16 to 23 that of the
- * device part, which starts one byte after the maker part ends; bits 24 to 39 the date; bits 40 to 55 the serial. Both
- * parts are still escaped. Answers 0; 13: the bytes aren't a key.
- */
+/* The parts of a key: key_maker_length and its fellows. Both names are still escaped. Answers 0; 13: no key. */
 uint64_t snatchblock_read_key(const uint8_t *key, size_t length);
 
 /*
- * A part of a key as the plain name, at the front of the room; its length in bits 8 to 31. Answers 0; 12: the room is
- * shorter than the name; 13: no key shows such a part: no escaped name, or over 64 bytes.
+ * A part of a key as the plain name. Answers 0; 12: the room is shorter than the name; 13: no key shows such a part, for
+ * the bytes aren't the escape of a name of up to 32 bytes.
  */
 uint32_t snatchblock_unescape(const uint8_t *part, size_t part_length, uint8_t *room, size_t room_length);
 
-/* ---- sheets ---- */
+/* ---- sheets */
 
 /*
- * A sheet of the bodies that there are, for the tags 0x20 to 0x23, at the front of the room; its length in bits 8 to
- * 31. Where has is false the body's bytes are ignored. Answers 0; 12: a body over 32 bytes, or a room under 145.
+ * A sheet of the bodies that there are, for the tags 20 to 23: ManufacturerName, DeviceName, DeviceChemistry,
+ * ManufacturerData. Where has is false the body's bytes are ignored. Give a name at least one byte. Answers 0; 12: a
+ * body over 32 bytes, or a room under 145.
  */
 uint32_t snatchblock_write_sheet(uint8_t *room, size_t room_length, bool has20, const uint8_t *body20,
                                  size_t length20, bool has21, const uint8_t *body21, size_t length21, bool has22,
@@ -149,24 +301,23 @@ uint32_t snatchblock_write_sheet(uint8_t *room, size_t room_length, bool has20, 
 bool snatchblock_is_sheet(const uint8_t *bytes, size_t length);
 
 /*
- * Where the block of a tag lies: bits 8 to 15 its length, bits 16 to 31 its offset, bit 32 set if in the factory sheet,
- * clear if in the service sheet. Answers 0; a tag listed in neither has no bytes of the factory sheet: length and offset
- * 0, bit 32 set. 9, and nothing above it: one of the two isn't a sheet.
+ * Where the block of a tag lies: block_length bytes at block_offset of the factory sheet (block_in_factory), else of the
+ * service sheet. A tag in neither has no bytes, at 0 of the factory sheet. Answers 0; 9: one of the two isn't a sheet.
  */
 uint64_t snatchblock_block(const uint8_t *service, size_t service_length, const uint8_t *factory,
                            size_t factory_length, uint8_t tag);
 
-/* ---- captures ---- */
+/* ---- captures */
 
-/*
- * Opens a capture: bits 8 to 15 its rows, bits 16 to 31 the place of the first body. Answers 0; 14: no capture.
- */
+/* Opens a capture and tests the whole of it: capture_rows, capture_first. Answers 0; 14: no capture, and both are 0. */
 uint32_t snatchblock_open_capture(const uint8_t *bytes, size_t length);
 
 /*
- * The row (from 0) whose body starts at a place: bit 8 set, bit 9 its mark (1 a read, 0 a write), bits 16 to 23 its
- * body's length, bits 32 to 63 the place of the next. Past the last row, or where the body would pass the end: 0.
- * Answers 0; 14: no capture.
+ * The row (from 0) whose body starts at a place: step_is_row, step_is_read, step_length, and step_next, the place for
+ * the next row. Opening tests the whole, a step its own row alone: open first, and walk from capture_first. Of bytes
+ * that are no capture that is 0, where every step answers 14. Answers 0, with no row past the last one, at a place before
+ * the bodies or where the body would pass the end; 14: place is 0, the rows pass the end, the bytes are over 9,946, or
+ * the row has a mark or a length that no capture has.
  */
 uint64_t snatchblock_step_capture(const uint8_t *bytes, size_t length, size_t row, size_t place);
 

@@ -1,35 +1,42 @@
-/* A pack's firmware as a board would have it: a bus driver (here simulated), a sample each second, and the
- * proved library between them. It runs a day of spraying and a night on the charger, across the wrap of the
- * millisecond counter, prints the alarms and charger words as they change, and writes a table for plot.py:
+/* A board for pack.c, simulated: a day of spraying across the wrap of the millisecond counter, a night on the charger,
+ * sixty days in store, and another morning with a counter that starts from 0. It prints the alarms and charger words
+ * as they change, and writes a table for plot.py:
  *   firmware TABLE.csv */
-#include "snatchblock.h"
+#include "board.h"
 
 #include <stdio.h>
 #include <stdlib.h>
 #include <string.h>
 
-enum { SECOND = 1000, MINUTE = 60, HOUR = 3600, DAY = 24 * HOUR };
-enum { RUN_FROM = 7 * HOUR, ALARM_WARNING = 0x16, HOST = 0x10, CHARGER = 0x12 };
+enum { MINUTE = 60, HOUR = 3600, DAY = 24 * HOUR };
+enum { DAY_FROM = 7 * HOUR, DAY_TO = DAY + 6 * HOUR, STORED = 60 * DAY, MORNING_TO = DAY_TO + STORED + 7 * HOUR };
+enum { BUSY_FROM = 16 * HOUR + 30 * MINUTE, BUSY_TO = BUSY_FROM + 20 * MINUTE }; /* the display wants no alarms */
+enum { POLLS_FROM = DAY + 5 * HOUR }; /* the charger wants no words, it asks itself */
+enum { ALARM_WARNING = 0x16, CHARGING_CURRENT = 0x14, HOST = 0x10, CHARGER = 0x12 };
+enum { SENT_WORDS = 1, SENT_STOP = 2 };
 
-/* ---- what the board keeps: the state's area, and the sheets in flash */
+static uint32_t second; /* since the first midnight */
 
-static uint8_t area[SNATCHBLOCK_AREA];
-static const uint8_t service_sheet[] = {0};
-static const uint8_t factory_sheet[] = {2, 0x20, 5, 9, 0, 0x21, 4, 14, 0, 'H', 'a', 'z', 'e', 'l', 'S', 'P', '1', '2'};
+static void die(const char *what)
+{
+    fprintf(stderr, "firmware: %s\n", what);
+    exit(1);
+}
 
-/* ---- the measuring side, simulated: a sprayer's pump by day, a charger by night */
+static void stamp(void)
+{
+    printf("day %2u %02u:%02u:%02u  ", second / DAY + 1, second / HOUR % 24, second / MINUTE % 60, second % 60);
+}
 
-struct reading {
-    uint16_t millivolts;
-    int16_t milliamps;
-    uint16_t temperature; /* 0.1 K */
-};
+/* ---- the cells: a sprayer's pump by day, a charger by night */
 
-static double true_charge = 11500.0; /* mAh, of 12,000: what the cells hold, which the pack can't see */
-static double warmth = 2931.0;       /* 0.1 K */
+static double true_charge = 11500; /* mAh of 12,000: what the cells hold, which the pack can't see */
+static double current;             /* mA */
+static double warmth = 2931;       /* 0.1 K */
+static uint16_t allowed_current;   /* what the charger was last told */
 
-/* The current that the day's plan asks for at a second of the day. */
-static int16_t load_at(uint32_t second)
+/* The current that the day's plan asks for. */
+static double load(void)
 {
     uint32_t hour = second / HOUR % 24;
     uint32_t minute = second / MINUTE % 60;
@@ -42,141 +49,227 @@ static int16_t load_at(uint32_t second)
     return -10;
 }
 
-static struct reading measure(uint32_t second, uint16_t allowed_current)
+static void a_second_passes(void)
 {
-    double current = load_at(second);
-    if (current > 0 && current > allowed_current)
+    uint32_t hour = second / HOUR % 24;
+    double ambient = hour > 11 && hour < 17 ? 3021 : 2931;
+    current = load();
+    if (current > allowed_current)
         current = allowed_current;
     if (current < 0 && true_charge <= 30)
         current = 0; /* the protection has opened */
     true_charge += current / HOUR;
     if (true_charge > 12000)
         true_charge = 12000;
-    double ambient = 2931 + (second / HOUR % 24 > 11 && second / HOUR % 24 < 17 ? 90 : 0);
-    warmth += (ambient + current * current / 60000.0 - warmth) / 1800.0;
+    warmth += (ambient + current * current / 60000 - warmth) / 1800;
+}
+
+/* ---- the counter: on for weeks when the day begins, it wraps at 15:00; after the storage it starts from 0 */
+
+static uint32_t started, reading_then;
+
+static uint32_t counter(void)
+{
+    return reading_then + (second - started) * 1000;
+}
+
+struct snatchblock_reading board_measure(void)
+{
     double open = 12.9 + 3.0 * true_charge / 12000 - (true_charge < 600 ? (600 - true_charge) * 0.005 : 0);
     double volts = open + current * 0.0002;
-    return (struct reading){(uint16_t)(volts * 1000), (int16_t)current, (uint16_t)warmth};
+    return (struct snatchblock_reading){(uint16_t)(volts * 1000), (int16_t)current, (uint16_t)warmth, counter()};
 }
 
-/* ---- the bus driver, simulated: the host's messages come in, the pack's go out */
+/* ---- the bus: the host's messages raise the driver's interrupt, which waits while it is masked */
 
-static uint16_t allowed_current; /* what the charger was last told */
-static uint16_t last_alarm, last_current, last_voltage;
-static unsigned alarms_sent, charger_words_sent, refused;
+struct message {
+    bool read;
+    uint8_t bytes[5];
+    size_t length;
+    uint8_t reply[SNATCHBLOCK_REPLY_ROOM];
+    int replied;
+};
 
-static void stamp(uint32_t second)
+static struct message *waiting;
+static bool masked;
+static unsigned waited, refused;
+
+static void interrupt(struct message *m)
 {
-    printf("%s %02u:%02u:%02u  ", second / DAY ? "next day" : "day     ", second / HOUR % 24, second / MINUTE % 60, second % 60);
+    if (masked)
+        die("an interrupt came through its mask");
+    m->replied = pack_on_bus(m->read, m->bytes, m->length, m->reply);
+    refused += m->replied == PACK_SILENT;
 }
 
-/* Sends one message of four bytes; prints it where its word is news. */
-static void send(uint32_t second, const uint8_t message[4])
+static void host_sends(struct message *m)
 {
-    uint16_t word = (uint16_t)(message[2] | message[3] << 8);
-    if (message[1] == ALARM_WARNING) {
-        alarms_sent++;
-        if (message[0] == HOST && word != last_alarm) {
-            stamp(second);
-            printf("alarm   %04x%s%s%s%s%s\n", word, word & 0x4000 ? " TERMINATE_CHARGE" : "",
-                   word & 0x1000 ? " OVER_TEMP" : "", word & 0x0800 ? " TERMINATE_DISCHARGE" : "",
-                   word & 0x0200 ? " REMAINING_CAPACITY" : "", word & 0x0100 ? " REMAINING_TIME" : "");
-            last_alarm = word;
-        }
-        if (message[0] == CHARGER)
-            allowed_current = 0;
+    if (!masked) {
+        interrupt(m);
         return;
     }
-    charger_words_sent++;
-    uint16_t *last = message[1] == 0x14 ? &last_current : &last_voltage;
-    if (message[1] == 0x14)
-        allowed_current = word;
-    if (word != *last) {
-        stamp(second);
-        printf("charger %s %u\n", message[1] == 0x14 ? "ChargingCurrent" : "ChargingVoltage", word);
-        *last = word;
-    }
-}
-
-/* One transaction as the driver's interrupt hands it over; gives the reply's length. */
-static size_t on_message(bool read, const uint8_t *bytes, size_t length, uint8_t reply[SNATCHBLOCK_REPLY_ROOM])
-{
-    uint32_t result = snatchblock_transact(area, sizeof area, service_sheet, sizeof service_sheet, factory_sheet,
-                                           sizeof factory_sheet, read, bytes, length, reply, SNATCHBLOCK_REPLY_ROOM);
-    unsigned answer = SNATCHBLOCK_ANSWER(result);
-    if (answer != 0 && answer != 10)
-        refused++;
-    return SNATCHBLOCK_LENGTH(result);
-}
-
-/* The host's side of a read: it checks the exchange, and asks again of a damaged one. */
-static uint16_t host_reads(uint8_t command)
-{
-    uint8_t exchange[3 + SNATCHBLOCK_REPLY_ROOM] = {0x16, command, 0x17};
-    size_t length = on_message(true, exchange, 3, exchange + 3);
-    if (snatchblock_exchange_check(exchange, 3 + length) != 1u << 8) {
-        fprintf(stderr, "firmware: a reply to %02x is damaged\n", command);
-        exit(1);
-    }
-    return (uint16_t)(exchange[3] | exchange[4] << 8);
+    waiting = m; /* one is enough: the host holds the bus until it is through */
+    waited++;
 }
 
 static void host_writes(uint8_t command, uint16_t word)
 {
-    uint8_t bytes[5] = {0x16, command, (uint8_t)(word & 0xFF), (uint8_t)(word >> 8)};
-    uint8_t reply[SNATCHBLOCK_REPLY_ROOM];
-    bytes[4] = snatchblock_pec(bytes, 4);
-    (void)on_message(false, bytes, sizeof bytes, reply);
+    static struct message m;
+    m = (struct message){false, {0x16, command, (uint8_t)(word & 0xFF), (uint8_t)(word >> 8)}, 5, {0}, 0};
+    m.bytes[4] = snatchblock_pec(m.bytes, 4);
+    host_sends(&m);
 }
 
-/* ---- the board's own loop */
-
-/* The board's counter: it wraps in the afternoon. */
-static uint32_t counter_at(uint32_t second)
+/* The host checks what it sent and heard. */
+static uint16_t host_reads(uint8_t command)
 {
-    return (second - 15 * HOUR) * SECOND;
+    struct message m = {true, {0x16, command, 0x17}, 3, {0}, 0};
+    uint8_t exchange[3 + SNATCHBLOCK_REPLY_ROOM];
+    host_sends(&m);
+    if (m.replied == PACK_SILENT)
+        die("a read isn't served");
+    memcpy(exchange, m.bytes, 3);
+    memcpy(exchange + 3, m.reply, (size_t)m.replied);
+    if (!snatchblock_check_right(snatchblock_exchange_check(exchange, 3 + (size_t)m.replied)))
+        die("a reply is damaged");
+    return (uint16_t)(m.reply[0] | m.reply[1] << 8);
 }
 
-static void start(void)
+/* The host's writes come at the worst moment, just when the loop is at the area. */
+void board_interrupts_off(void)
 {
-    struct reading first = measure(RUN_FROM, 0);
-    uint32_t answer = snatchblock_set_up(area, sizeof area, 12000, 12000, 11500, 14400, 2, 31, 0x526F, 17, 1500, 16800, 3182,
-                                         12300, first.millivolts, first.milliamps, first.temperature, counter_at(RUN_FROM));
-    if (answer != 0) {
-        fprintf(stderr, "firmware: set-up answers %u\n", answer);
-        exit(1);
+    masked = true;
+    if (second == DAY_FROM + 1)
+        host_writes(0x01, 1500); /* RemainingCapacityAlarm */
+    if (second >= BUSY_FROM && second < BUSY_TO && (second - BUSY_FROM) % 50 == 0)
+        host_writes(0x03, 0x2000); /* ALARM_MODE, renewed before its minute is over */
+    if (second == POLLS_FROM)
+        host_writes(0x03, 0x4000); /* CHARGER_MODE */
+}
+
+void board_interrupts_on(void)
+{
+    struct message *m = waiting;
+    masked = false;
+    waiting = NULL;
+    if (m != NULL)
+        interrupt(m);
+}
+
+/* ---- the bus: the pack's broadcasts */
+
+static uint16_t last_alarm, last_current, last_voltage;
+static unsigned alarms_sent, charger_words_sent;
+static unsigned alarms_of_minute, charger_of_minute; /* for the table */
+
+static void host_hears(uint16_t word)
+{
+    alarms_of_minute |= word;
+    if (word == last_alarm)
+        return;
+    last_alarm = word;
+    stamp();
+    printf("alarm   %04x%s%s%s%s%s\n", word, word & 0x4000 ? " TERMINATE_CHARGE" : "", word & 0x1000 ? " OVER_TEMP" : "",
+           word & 0x0800 ? " TERMINATE_DISCHARGE" : "", word & 0x0200 ? " REMAINING_CAPACITY" : "",
+           word & 0x0100 ? " REMAINING_TIME" : "");
+}
+
+static void charger_hears(uint8_t command, uint16_t word)
+{
+    bool of_current = command == CHARGING_CURRENT;
+    uint16_t *last = of_current ? &last_current : &last_voltage;
+    if (command == ALARM_WARNING || of_current)
+        allowed_current = command == ALARM_WARNING ? 0 : word;
+    charger_of_minute |= command == ALARM_WARNING ? SENT_STOP : SENT_WORDS;
+    if (command == ALARM_WARNING || word == *last)
+        return;
+    *last = word;
+    stamp();
+    printf("charger %s %u\n", of_current ? "ChargingCurrent" : "ChargingVoltage", word);
+}
+
+void board_send(const uint8_t message[4])
+{
+    uint16_t word = (uint16_t)(message[2] | message[3] << 8);
+    alarms_sent += message[1] == ALARM_WARNING;
+    charger_words_sent += message[1] != ALARM_WARNING;
+    if (message[0] == HOST)
+        host_hears(word);
+    else
+        charger_hears(message[1], word);
+}
+
+/* ---- EEPROM */
+
+static uint8_t eeprom[256];
+
+void board_eeprom_read(uint8_t *to, size_t length)
+{
+    memcpy(to, eeprom, length);
+}
+
+void board_eeprom_write(const uint8_t *from, size_t length)
+{
+    memcpy(eeprom, from, length);
+}
+
+/* ---- the days */
+
+static void power_on(uint32_t reading)
+{
+    started = second;
+    reading_then = reading;
+    bool kept = pack_power_on();
+    stamp();
+    printf("power on, the counter at %u: %s\n", reading,
+           kept ? "the kept state is right" : "the kept state is damaged, set up anew");
+    stamp();
+    printf("%u mAh, MaxError %u %%, BatteryMode %04x\n", host_reads(0x0F), host_reads(0x0C), host_reads(0x03));
+}
+
+static void row(FILE *table)
+{
+    if (table == NULL)
+        return;
+    fprintf(table, "%u,%u,%u,%u,%u,%u,%u\n", second, counter(), host_reads(0x0D), host_reads(0x09), host_reads(0x03),
+            alarms_of_minute, charger_of_minute);
+    alarms_of_minute = charger_of_minute = 0;
+}
+
+static void tell(bool now, const char *what)
+{
+    if (now) {
+        stamp();
+        puts(what);
     }
 }
 
-/* A sample each second, its messages sent as they are due. */
-static uint16_t on_second(uint32_t second)
+/* With no table none is written. */
+static void run_until(uint32_t end, FILE *table)
 {
-    struct reading now = measure(second, allowed_current);
-    uint8_t room[SNATCHBLOCK_BROADCAST_ROOM];
-    uint32_t result = snatchblock_sample(area, sizeof area, now.millivolts, now.milliamps, now.temperature, counter_at(second),
-                                         room, sizeof room);
-    if (SNATCHBLOCK_ANSWER(result) != 0) {
-        fprintf(stderr, "firmware: a sample answers %u\n", SNATCHBLOCK_ANSWER(result));
-        exit(1);
+    row(table);
+    while (second < end) {
+        second++;
+        a_second_passes();
+        pack_on_second();
+        tell(counter() == 0, "the counter wraps");
+        tell(second == BUSY_FROM, "the display is busy and asks for no alarms");
+        tell(second == BUSY_TO, "the display is free again");
+        tell(second == POLLS_FROM, "the charger asks for no words");
+        if (second % MINUTE == 0)
+            row(table);
     }
-    uint16_t alarm = 0;
-    for (size_t at = 0; at < SNATCHBLOCK_LENGTH(result); at += 4) {
-        send(second, room + at);
-        if (room[at] == HOST)
-            alarm = (uint16_t)(room[at + 2] | room[at + 3] << 8);
-    }
-    return alarm;
 }
 
-/* The area goes to EEPROM and comes back, as over a winter's storage. */
-static void power_cycle(uint32_t second)
+/* The board's memory is lost and the counter stands; only the EEPROM stays. */
+static void store(void)
 {
-    uint8_t eeprom[SNATCHBLOCK_AREA];
-    memcpy(eeprom, area, sizeof eeprom);
-    memset(area, 0xFF, sizeof area);
-    memcpy(area, eeprom, sizeof area);
-    stamp(second);
-    printf("area kept in EEPROM and read back, %s\n", snatchblock_sound(area, sizeof area) ? "sound" : "NOT SOUND");
+    stamp();
+    printf("stored for 60 days with %u mAh, BatteryMode %04x\n", host_reads(0x0F), host_reads(0x03));
+    pack_keep();
+    second += STORED;
+    current = load();
+    power_on(0);
 }
 
 int main(int count, char **given)
@@ -186,26 +279,20 @@ int main(int count, char **given)
         fprintf(stderr, "usage: firmware TABLE.csv\n");
         return 2;
     }
-    fprintf(table, "second,percent,millivolts,milliamps,alarm\n");
-    start();
-    host_writes(0x01, 1500); /* RemainingCapacityAlarm */
-    uint16_t alarm = 0;
-    for (uint32_t second = RUN_FROM + 1; second <= DAY + 6 * HOUR; second++) {
-        alarm |= on_second(second);
-        if (counter_at(second) == 0) {
-            stamp(second);
-            printf("the millisecond counter wraps\n");
-        }
-        if (second == 16 * HOUR + 30 * MINUTE)
-            host_writes(0x03, 0x2000); /* the display is busy: a minute without alarms */
-        if (second == 17 * HOUR + 30 * MINUTE)
-            power_cycle(second);
-        if (second % MINUTE == 0) {
-            fprintf(table, "%u,%u,%u,%d,%u\n", second, host_reads(0x0D), host_reads(0x09), (int16_t)host_reads(0x0A), alarm);
-            alarm = 0;
-        }
-    }
-    printf("RelativeStateOfCharge %u %%, RemainingCapacity %u mAh; sent %u alarm and %u charger messages, refused %u\n",
-           host_reads(0x0D), host_reads(0x0F), alarms_sent, charger_words_sent, refused);
+    fprintf(table, "second,counter,percent,millivolts,mode,alarms,charger\n");
+    second = DAY_FROM;
+    if (!pack_make(11500, 2))
+        die("the set-up is refused");
+    power_on(0u - (15 * HOUR - DAY_FROM) * 1000u);
+    run_until(DAY_TO, table);
+    store();
+    run_until(MORNING_TO, table);
+    stamp();
+    printf("%u %%, %u mAh; sent %u alarm and %u charger messages, refused %u, %u waited for a sample\n", host_reads(0x0D),
+           host_reads(0x0F), alarms_sent, charger_words_sent, refused, waited);
+    pack_keep();
+    eeprom[100] ^= 0x10; /* one bit rots */
+    power_on(0);
+    run_until(second + MINUTE, NULL);
     return fclose(table) != 0;
 }

@@ -345,7 +345,12 @@ static void served(void)
     CHECK(room_is((const uint8_t[]){0xFF, 0xFF, snatchblock_pec(request, 5)}, 3), true);
     CHECK(read_word(0x16), 0x00C5);
     CHECK(read_word(0x16), 0x00C0);
+}
+
+static void served_exchanges(void)
+{
     /* each read command is served, and its exchange is right */
+    usual_pack();
     for (uint8_t command = 0; command <= 0x1C; command++) {
         uint8_t exchange[6] = {0x16, command, 0x17};
         if (command == 0x05)
@@ -383,6 +388,11 @@ static void winter(void)
     CHECK(read_word(0x01), 1234);
     CHECK(read_word(0x0F), 1500);
     CHECK(read_word(0x09), 14000);
+    /* the counter began anew: a sample without current adds nothing, and time is counted from its reading on */
+    CHECK(snatchblock_answer_of(sample(14000, 0, 2981, 17)), 0);
+    CHECK(read_word(0x0F), 1500);
+    CHECK(snatchblock_answer_of(sample(14000, -500, 2981, 17 + 3600000)), 0);
+    CHECK(read_word(0x0F), 1000);
 }
 
 /* ---- check bytes */
@@ -471,30 +481,42 @@ static void unescaping(void)
     CHECK(room_is(NULL, 0), true);
 }
 
-/* A key shows parts of up to 64 bytes: those are unescaped into room that just holds the name, longer ones are 13. */
-static void unescaping_64(void)
+/* A name has up to 32 bytes, escaped or not: it is unescaped into room that just holds it. One byte more is 13. */
+static void unescaping_32(void)
 {
-    uint8_t letters[65], marks[65], plain[64];
+    uint8_t letters[33], strokes[66], one_more[65], last_escaped[33], plain[32], stroke_last[32];
     memset(letters, 'm', sizeof letters);
     memset(plain, 0x2F, sizeof plain);
-    for (size_t i = 0; i < sizeof marks; i++)
-        marks[i] = i % 2 == 0 ? 0x5C : 0x2F;
-    marks[64] = 'm';
+    for (size_t i = 0; i < sizeof strokes; i++)
+        strokes[i] = i % 2 == 0 ? 0x5C : 0x2F;
+    memcpy(one_more, strokes, 64);
+    one_more[64] = 'm';
+    memcpy(last_escaped, letters, 31);
+    memcpy(last_escaped + 31, strokes, 2);
+    memcpy(stroke_last, letters, 31);
+    stroke_last[31] = 0x2F;
     for (size_t length = 0; length <= ROOM_MOST; length++) {
+        size_t served = length < 32 ? 0 : 32;
+        uint32_t answer = length < 32 ? 12 : PACKED(0, 32);
         new_room();
-        CHECK(snatchblock_unescape(letters, 65, room, length), 13);
-        CHECK(snatchblock_unescape(marks, 65, room, length), 13);
-        CHECK(snatchblock_unescape(marks, 63, room, length), 13); /* ends in an escape mark */
+        CHECK(snatchblock_unescape(letters, 33, room, length), 13);
+        CHECK(snatchblock_unescape(strokes, 66, room, length), 13);
+        CHECK(snatchblock_unescape(one_more, 65, room, length), 13);
+        CHECK(snatchblock_unescape(strokes, 65, room, length), 13); /* this and the next end in an escape mark */
+        CHECK(snatchblock_unescape(strokes, 63, room, length), 13);
         CHECK(room_is(NULL, 0), true);
-        CHECK(snatchblock_unescape(letters, 64, room, length), length < 64 ? 12 : PACKED(0, 64));
-        CHECK(room_is(letters, length < 64 ? 0 : 64), true);
+        CHECK(snatchblock_unescape(letters, 32, room, length), answer);
+        CHECK(room_is(letters, served), true);
         new_room();
-        CHECK(snatchblock_unescape(marks, 64, room, length), length < 32 ? 12 : PACKED(0, 32));
-        CHECK(room_is(plain, length < 32 ? 0 : 32), true);
+        CHECK(snatchblock_unescape(strokes, 64, room, length), answer);
+        CHECK(room_is(plain, served), true);
+        new_room();
+        CHECK(snatchblock_unescape(last_escaped, 33, room, length), answer);
+        CHECK(room_is(stroke_last, served), true);
     }
 }
 
-/* Bytes of every length get an answer: megabytes without a slash need no deep stack. */
+/* Bytes of every length get an answer: megabytes without a slash, or of escapes alone, need no deep stack. */
 static void long_bytes_of(uint8_t byte, size_t length)
 {
     static uint8_t bytes[1 << 24];
@@ -594,25 +616,155 @@ static void captures(void)
     CHECK(snatchblock_step_capture(capture, length, SIZE_MAX, SIZE_MAX), 0);
     CHECK(snatchblock_step_capture(capture, length, 0, SIZE_MAX), 0);
     CHECK(snatchblock_step_capture(capture, length, 0, 16), 0);
+    CHECK(snatchblock_step_capture(capture, length, 1, 17), 1ull << 8 | 1ull << 9 | 3ull << 16 | 20ull << 32);
+    CHECK(snatchblock_step_capture(capture, length, (size_t)1 << 63, 7), 0);
+    CHECK(snatchblock_step_capture(capture, length, SIZE_MAX, 0), 14);
+    for (size_t row = 0; row < 5; row++)
+        CHECK(snatchblock_step_capture(capture, length, row, 0), 14);
+    for (size_t in_table = 1; in_table < 7; in_table++)
+        CHECK(snatchblock_step_capture(capture, length, 0, in_table), 0);
     for (size_t cut = 0; cut < length; cut++) {
         CHECK(snatchblock_open_capture(capture, cut), 14);
-        CHECK(snatchblock_step_capture(capture, cut, 0, 7), 14);
+        for (size_t row = 0; row < 4; row++)
+            CHECK(snatchblock_step_capture(capture, cut, row, 0), 14);
+        /* a step from another place sees a cut table; else it looks at its own row, the first of 5 bytes */
+        CHECK(snatchblock_step_capture(capture, cut, 0, 7), cut < 7 ? 14 : cut < 12 ? 0 : 1ull << 8 | 5ull << 16 | 12ull << 32);
     }
     CHECK(snatchblock_open_capture(BYTES(0)), 1ul << 16);
     CHECK(snatchblock_step_capture(BYTES(0), 0, 1), 0);
     CHECK(snatchblock_open_capture(BYTES(0, 0)), 14);
+    CHECK(snatchblock_step_capture(BYTES(0), 0, 0), 14);
     CHECK(snatchblock_open_capture(BYTES(1, 2, 0)), 14);
+    CHECK(snatchblock_step_capture(BYTES(1, 2, 0), 0, 3), 14);
+    CHECK(snatchblock_step_capture(BYTES(1, 2, 0), 1, 3), 0);
     CHECK(snatchblock_open_capture(BYTES(1, 1, 0)), 1ul << 8 | 3ul << 16);
     uint8_t long_row[41] = {1, 0, 37};
     CHECK(snatchblock_open_capture(long_row, 40), 1ul << 8 | 3ul << 16);
     long_row[2] = 38;
     CHECK(snatchblock_open_capture(long_row, 41), 14);
-    /* the longest capture: 255 rows of 37 bytes */
-    static uint8_t longest[1 + 255 * 39] = {255};
+    CHECK(snatchblock_step_capture(long_row, 41, 0, 3), 14);
+    /* the longest capture: 255 rows of 37 bytes; and a byte more */
+    enum { LONGEST = 1 + 255 * 39 };
+    static uint8_t longest[LONGEST + 1] = {255};
     for (size_t i = 0; i < 255; i++)
         longest[2 + 2 * i] = 37;
-    CHECK(snatchblock_open_capture(longest, sizeof longest), 255ul << 8 | 511ul << 16);
-    CHECK(snatchblock_step_capture(longest, sizeof longest, 254, sizeof longest - 37), 1ull << 8 | 37ull << 16 | (unsigned long long)sizeof longest << 32);
+    CHECK(snatchblock_open_capture(longest, LONGEST), 255ul << 8 | 511ul << 16);
+    CHECK(snatchblock_step_capture(longest, LONGEST, 254, LONGEST - 37), 1ull << 8 | 37ull << 16 | (unsigned long long)LONGEST << 32);
+    CHECK(snatchblock_step_capture(longest, LONGEST, 0, 511), 1ull << 8 | 37ull << 16 | 548ull << 32);
+    CHECK(snatchblock_open_capture(longest, LONGEST + 1), 14);
+    CHECK(snatchblock_step_capture(longest, LONGEST + 1, 0, 511), 14);
+    CHECK(snatchblock_step_capture(longest, LONGEST + 1, 255, LONGEST), 14);
+}
+
+/* ---- the header's own functions */
+
+/* The bits of a result from one to another, one at a time. */
+static uint64_t bits(uint64_t result, unsigned from, unsigned to)
+{
+    uint64_t value = 0;
+    for (unsigned i = from; i <= to; i++)
+        if (result & (uint64_t)1 << i)
+            value += (uint64_t)1 << (i - from);
+    return value;
+}
+
+/* Each accessor beside the header's table of bits. */
+static void access_wide(uint64_t r)
+{
+    CHECK(snatchblock_answer_of(r), bits(r, 0, 7));
+    CHECK(snatchblock_served(r), bits(r, 0, 7) == 0 || bits(r, 0, 7) == 10);
+    CHECK(snatchblock_key_maker_length(r), bits(r, 8, 15));
+    CHECK(snatchblock_key_device_offset(r), bits(r, 8, 15) + 1);
+    CHECK(snatchblock_key_device_length(r), bits(r, 16, 23));
+    CHECK(snatchblock_key_date(r), bits(r, 24, 39));
+    CHECK(snatchblock_key_serial(r), bits(r, 40, 55));
+    CHECK(snatchblock_block_length(r), bits(r, 8, 15));
+    CHECK(snatchblock_block_offset(r), bits(r, 16, 31));
+    CHECK(snatchblock_block_in_factory(r), bits(r, 32, 32));
+    CHECK(snatchblock_step_is_row(r), bits(r, 8, 8));
+    CHECK(snatchblock_step_is_read(r), bits(r, 9, 9));
+    CHECK(snatchblock_step_length(r), bits(r, 16, 23));
+    CHECK(snatchblock_step_next(r), bits(r, 32, 63));
+}
+
+static void access_narrow(uint32_t r)
+{
+    CHECK(snatchblock_length_of(r), bits(r, 8, 31));
+    CHECK(snatchblock_check_right(r), bits(r, 8, 8));
+    CHECK(snatchblock_comparison_bits(r), bits(r, 8, 31));
+    CHECK(snatchblock_capture_rows(r), bits(r, 8, 15));
+    CHECK(snatchblock_capture_first(r), bits(r, 16, 31));
+}
+
+/* Every single bit, every answer, and mixtures. */
+static void accessors(void)
+{
+    uint64_t mixed = 1;
+    for (unsigned i = 0; i < 64; i++) {
+        access_wide((uint64_t)1 << i);
+        access_wide(~((uint64_t)1 << i));
+        access_narrow((uint32_t)1 << i % 32);
+        access_narrow(~((uint32_t)1 << i % 32));
+        mixed = mixed * 6364136223846793005u + 1442695040888963407u;
+        access_wide(mixed);
+        access_narrow((uint32_t)(mixed >> 32));
+    }
+    for (unsigned i = 0; i < 256; i++)
+        access_wide(0x0123456789ABCD00u | i);
+}
+
+/* The names stand in the order of document 01's table. */
+static void answer_names(void)
+{
+    const enum snatchblock_answer names[] = {
+        SNATCHBLOCK_SERVED, SNATCHBLOCK_NOT_SOUND, SNATCHBLOCK_SMALL_ROOM, SNATCHBLOCK_OTHER_ADDRESS,
+        SNATCHBLOCK_WRONG_FORM, SNATCHBLOCK_WRONG_PEC, SNATCHBLOCK_RESERVED_COMMAND, SNATCHBLOCK_COMMAND_NOT_BUILT,
+        SNATCHBLOCK_READ_ONLY, SNATCHBLOCK_BAD_SHEET, SNATCHBLOCK_SERVED_FFFF, SNATCHBLOCK_BAD_SET_UP,
+        SNATCHBLOCK_NO_FIT, SNATCHBLOCK_NOT_A_KEY, SNATCHBLOCK_NOT_A_CAPTURE, SNATCHBLOCK_WRONG_LENGTH};
+    CHECK(sizeof names / sizeof *names, 16);
+    for (unsigned i = 0; i < 16; i++)
+        CHECK(names[i], i);
+    CHECK(SNATCHBLOCK_VERSION, 1);
+}
+
+static uint32_t number_at(size_t at, size_t bytes)
+{
+    uint32_t value = 0;
+    for (size_t i = 0; i < bytes; i++)
+        value |= (uint32_t)area[at + i] << 8 * i;
+    return value;
+}
+
+/* Each named number lands at its place: no two are equal. */
+static void wrappers(void)
+{
+    const struct snatchblock_setup setup = {
+        .DesignCapacity = 4001, .full = 4002, .remaining = 1003, .DesignVoltage = 14804, .MaxError = 5, .CycleCount = 6,
+        .ManufactureDate = 20007, .SerialNumber = 108, .ChargingCurrent = 2009, .ChargingVoltage = 16810,
+        .TemperatureLimit = 3111, .DischargeLimit = 11012};
+    const struct snatchblock_reading first = {.voltage = 14013, .current = -1014, .temperature = 2915, .counter = 0xFFFF0016};
+    const struct snatchblock_reading next = {.voltage = 14117, .current = 1118, .temperature = 2919, .counter = 0x00010020};
+    const uint16_t settings[9] = {4001, 14804, 5, 20007, 108, 2009, 16810, 3111, 11012};
+    memset(area_memory, MARK, sizeof area_memory);
+    CHECK(snatchblock_set_up_from(area, SNATCHBLOCK_AREA - 1, &setup, &first), 1);
+    CHECK(snatchblock_set_up_from(area, SNATCHBLOCK_AREA, &setup, &first), 0);
+    for (size_t i = 0; i < 9; i++)
+        CHECK(number_at(SNATCHBLOCK_SETTINGS + 2 * i, 2), settings[i]);
+    CHECK(read_word(0x10), 4002);
+    CHECK(read_word(0x0F), 1003);
+    CHECK(read_word(0x17), 6);
+    CHECK(number_at(SNATCHBLOCK_LATEST, 2), 14013);
+    CHECK(number_at(SNATCHBLOCK_LATEST + 2, 2), 0x10000 - 1014);
+    CHECK(number_at(SNATCHBLOCK_LATEST + 4, 2), 2915);
+    CHECK(number_at(SNATCHBLOCK_LATEST + 6, 4), 0xFFFF0016);
+    new_room();
+    CHECK(snatchblock_sample_from(area, SNATCHBLOCK_AREA, &next, room, BROADCAST_ROOM - 1), 2);
+    CHECK(snatchblock_sample_from(area, SNATCHBLOCK_AREA, &next, room, BROADCAST_ROOM), PACKED(0, 8)); /* 131,082 ms on */
+    CHECK(room[2] | room[3] << 8, 2009);
+    CHECK(number_at(SNATCHBLOCK_LATEST, 2), 14117);
+    CHECK(number_at(SNATCHBLOCK_LATEST + 2, 2), 1118);
+    CHECK(number_at(SNATCHBLOCK_LATEST + 4, 2), 2919);
+    CHECK(number_at(SNATCHBLOCK_LATEST + 6, 4), 0x00010020);
 }
 
 int main(void)
@@ -621,8 +773,9 @@ int main(void)
     CHECK(SNATCHBLOCK_BROADCAST_ROOM, BROADCAST_ROOM);
     CHECK(SNATCHBLOCK_KEY_ROOM, KEY_ROOM);
     CHECK(SNATCHBLOCK_SHEET_ROOM, SHEET_ROOM);
-    CHECK(SNATCHBLOCK_ANSWER(PACKED(10, 3)), 10);
-    CHECK(SNATCHBLOCK_LENGTH(PACKED(10, 3)), 3);
+    answer_names();
+    accessors();
+    wrappers();
     set_ups();
     layout();
     soundness();
@@ -631,12 +784,13 @@ int main(void)
     transact_sizes();
     refusals();
     served();
+    served_exchanges();
     winter();
     checks();
     key_writing();
     key_reading();
     unescaping();
-    unescaping_64();
+    unescaping_32();
     long_bytes();
     sheet_writing();
     blocks();

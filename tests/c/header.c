@@ -1,0 +1,80 @@
+/* The header by itself, in what C11 and C++ have in common: tests/c/header compiles this as both, with every warning. */
+#include "snatchblock.h"
+#include "snatchblock.h" /* twice does no harm */
+
+#include <stdio.h>
+
+static uint8_t area[SNATCHBLOCK_AREA];
+static uint8_t room[SNATCHBLOCK_SHEET_ROOM];
+static const uint8_t no_names[1] = {0};
+
+static struct snatchblock_setup setup_of_a_pack(void)
+{
+    struct snatchblock_setup setup = {0, 0, 0, 0, 0, 0, 0, 0, 0, 0, 0, 0};
+    setup.DesignCapacity = 4000;
+    setup.full = 4000;
+    setup.remaining = 2000;
+    setup.DesignVoltage = 14800;
+    return setup;
+}
+
+/* Document 01's pack reads 14,800 mV: worked example 3. */
+static bool pack_answers(void)
+{
+    const uint8_t request[3] = {0x16, 0x09, 0x17};
+    struct snatchblock_setup setup = setup_of_a_pack();
+    struct snatchblock_reading reading = {14800, 0, 0, 0};
+    uint32_t result = snatchblock_set_up_from(area, sizeof area, &setup, &reading);
+    if (snatchblock_answer_of(result) != SNATCHBLOCK_SERVED || !snatchblock_sound(area, sizeof area))
+        return false;
+    result = snatchblock_sample_from(area, sizeof area, &reading, room, sizeof room);
+    if (!snatchblock_served(result))
+        return false;
+    result = snatchblock_transact(area, sizeof area, no_names, 1, no_names, 1, true, request, 3, room, sizeof room);
+    return snatchblock_served(result) && snatchblock_length_of(result) == 3 && room[0] == 0xD0 && room[1] == 0x39 &&
+           room[2] == 0x7E;
+}
+
+/* One call of each other function, its result read by its accessors. */
+static const uint8_t exchange[6] = {0x16, 0x09, 0x17, 0xD0, 0x39, 0x7E};
+static const uint8_t *const name = exchange + 1;
+
+static bool messages_answer(void)
+{
+    return snatchblock_pec(exchange, 5) == 0x7E && snatchblock_check_right(snatchblock_exchange_check(exchange, 6)) &&
+           snatchblock_comparison_bits(snatchblock_bit_comparison(exchange, 1, exchange + 2, 1)) == 1;
+}
+
+static bool keys_answer(void)
+{
+    uint32_t key = snatchblock_write_key(name, 1, name, 2, 7, 9, room, sizeof room);
+    uint64_t parts = snatchblock_read_key(room, snatchblock_length_of(key));
+    return snatchblock_key_maker_length(parts) == 1 && snatchblock_key_device_offset(parts) == 2 &&
+           snatchblock_key_device_length(parts) == 2 && snatchblock_key_date(parts) == 7 &&
+           snatchblock_key_serial(parts) == 9 && snatchblock_served(snatchblock_unescape(name, 1, room, 1));
+}
+
+static bool sheets_answer(void)
+{
+    uint32_t sheet = snatchblock_write_sheet(room, sizeof room, true, name, 4, false, name, 0, false, name, 0, false, name, 0);
+    uint64_t block = snatchblock_block(room, snatchblock_length_of(sheet), no_names, 1, 0x20);
+    return snatchblock_is_sheet(no_names, 1) && snatchblock_block_length(block) == 4 &&
+           snatchblock_block_offset(block) == 5 && !snatchblock_block_in_factory(block);
+}
+
+static bool captures_answer(void)
+{
+    const uint8_t capture[6] = {1, 1, 3, 0x16, 0x09, 0x17};
+    uint32_t opened = snatchblock_open_capture(capture, sizeof capture);
+    uint64_t step = snatchblock_step_capture(capture, sizeof capture, 0, snatchblock_capture_first(opened));
+    return snatchblock_capture_rows(opened) == 1 && snatchblock_step_is_row(step) && snatchblock_step_is_read(step) &&
+           snatchblock_step_length(step) == 3 && snatchblock_step_next(step) == sizeof capture;
+}
+
+int main(void)
+{
+    if (pack_answers() && messages_answer() && keys_answer() && sheets_answer() && captures_answer())
+        return 0;
+    printf("header: an answer is wrong\n");
+    return 1;
+}

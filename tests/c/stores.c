@@ -1,0 +1,249 @@
+/* Which bytes of the area a call stores. The area lies over a seam: what stands before it may be written or not, what
+ * stands after it may be read alone. A store past what the call owes ends the process, and each call is held to the
+ * same call on an area in plain memory. Plain C11 and POSIX. */
+#define _DEFAULT_SOURCE
+#include "snatchblock.h"
+
+#include <signal.h>
+#include <stdio.h>
+#include <string.h>
+#include <sys/mman.h>
+#include <sys/wait.h>
+#include <unistd.h>
+
+/* A whole number of pages on every processor that we know. */
+enum { PAGE = 65536, FAULT = 3, MARK = 0xA5 };
+
+static unsigned passed, failed;
+
+static void check_at(int line, const char *what, unsigned long long got, unsigned long long wanted)
+{
+    if (got == wanted) {
+        passed++;
+        return;
+    }
+    failed++;
+    printf("stores: line %d: %s: %llx, not %llx\n", line, what, got, wanted);
+}
+#define CHECK(got, wanted) check_at(__LINE__, #got, (unsigned long long)(got), (unsigned long long)(wanted))
+
+#define PACKED(answer, length) ((uint32_t)(answer) | (uint32_t)(length) << 8)
+
+/* ---- two pages, and the state in plain memory */
+
+static uint8_t *seam;
+static uint8_t state[SNATCHBLOCK_AREA];
+
+static void map_pages(void)
+{
+    uint8_t *all = mmap(NULL, 3 * PAGE, PROT_READ | PROT_WRITE, MAP_PRIVATE | MAP_ANONYMOUS, -1, 0);
+    if (all == MAP_FAILED) {
+        perror("stores: mmap");
+        _exit(2);
+    }
+    seam = all + (PAGE - (uintptr_t)all % PAGE) % PAGE + PAGE;
+}
+
+static void protect(uint8_t *page, int how)
+{
+    if (mprotect(page, PAGE, how) != 0) {
+        perror("stores: mprotect");
+        _exit(2);
+    }
+}
+
+/* The state again, with its first bytes before the seam, those pages to be written or not; the rest is read only. */
+static uint8_t *across(size_t before, bool written)
+{
+    protect(seam - PAGE, PROT_READ | PROT_WRITE);
+    protect(seam, PROT_READ | PROT_WRITE);
+    memcpy(seam - before, state, sizeof state);
+    protect(seam, PROT_READ);
+    if (!written)
+        protect(seam - PAGE, PROT_READ);
+    return seam - before;
+}
+
+static void new_state(void)
+{
+    CHECK(snatchblock_set_up(state, sizeof state, 4000, 4000, 2000, 14800, 2, 7, 0x526F, 17, 2000, 16800, 3182, 11000,
+                             14800, -500, 2981, 0), 0);
+}
+
+/* ---- a call, and what it may store */
+
+struct call {
+    bool read;
+    uint8_t bytes[5];
+    size_t length, room;
+    const uint8_t *service;
+};
+
+static const uint8_t no_names[1] = {0}, bad_sheet[1] = {5};
+
+static uint32_t made(uint8_t *area, const struct call *c, uint8_t *room)
+{
+    memset(room, MARK, SNATCHBLOCK_REPLY_ROOM);
+    return snatchblock_transact(area, SNATCHBLOCK_AREA, c->service, 1, no_names, 1, c->read, c->bytes, c->length, room, c->room);
+}
+
+/* The call stores no byte past the first `before`, and none at all unless `written`; and does what it does elsewhere. */
+static void stores_at(int line, size_t before, bool written, struct call c, uint32_t wanted)
+{
+    uint8_t room[SNATCHBLOCK_REPLY_ROOM], other[SNATCHBLOCK_REPLY_ROOM];
+    uint8_t *area = across(before, written);
+    uint32_t result = made(area, &c, room);
+    check_at(line, "the result", result, wanted);
+    check_at(line, "the result elsewhere", made(state, &c, other), result);
+    check_at(line, "the area", (unsigned long long)memcmp(area, state, sizeof state), 0);
+    check_at(line, "the room", (unsigned long long)memcmp(room, other, sizeof room), 0);
+}
+
+#define READ(command) (struct call){true, {0x16, command, 0x17}, 3, SNATCHBLOCK_REPLY_ROOM, no_names}
+#define WRITE(command, low, high) (struct call){false, {0x16, command, low, high}, 4, SNATCHBLOCK_REPLY_ROOM, no_names}
+#define CODE_ALONE(call, wanted) stores_at(__LINE__, 1, true, call, wanted)
+#define NOTHING(call, wanted) stores_at(__LINE__, 1, false, call, wanted)
+
+/* ---- the calls */
+
+/* 4 to 9, each from an error code that isn't its own. */
+static void refusals(void)
+{
+    struct call bad_pec = {false, {0x16, 0x02, 10, 0, 0x46}, 5, SNATCHBLOCK_REPLY_ROOM, no_names};
+    struct call bad_block = {true, {0x16, 0x20, 0x17}, 3, SNATCHBLOCK_REPLY_ROOM, bad_sheet};
+    struct call short_write = {false, {0x16, 0x02, 10}, 3, SNATCHBLOCK_REPLY_ROOM, no_names};
+    CODE_ALONE(short_write, 4);
+    CHECK(state[0], 6);
+    CODE_ALONE(bad_pec, 5);
+    CHECK(state[0], 7);
+    CODE_ALONE(READ(0x24), 6);
+    CHECK(state[0], 2);
+    CODE_ALONE(WRITE(0x40, 0, 0), 6);
+    CHECK(state[0], 2);
+    CODE_ALONE(READ(0x2F), 7);
+    CHECK(state[0], 3);
+    CODE_ALONE(WRITE(0x09, 0, 0), 8);
+    CHECK(state[0], 4);
+    CODE_ALONE(bad_block, 9);
+    CHECK(state[0], 7);
+}
+
+/* 0 and 10: each command that the pack has. */
+static void reads(void)
+{
+    for (unsigned command = 0x00; command <= 0x1C; command++) {
+        state[0] = 6;
+        CODE_ALONE(READ((uint8_t)command), PACKED(0, 3));
+        CHECK(state[0], 0);
+    }
+    for (unsigned command = 0x20; command <= 0x23; command++) {
+        state[0] = 6;
+        CODE_ALONE(READ((uint8_t)command), PACKED(0, 2));
+        CHECK(state[0], 0);
+    }
+    CHECK(made(state, &WRITE(0x03, 0x00, 0x80), (uint8_t[SNATCHBLOCK_REPLY_ROOM]){0}), 0);
+    CODE_ALONE(READ(0x05), PACKED(10, 3));
+    CHECK(state[0], 5);
+}
+
+/* 1, 2 and 3 store nothing at all. */
+static void untouched(void)
+{
+    struct call small_room = READ(0x09), no_bytes = READ(0x09), foreign = READ(0x09);
+    small_room.room = SNATCHBLOCK_REPLY_ROOM - 1;
+    no_bytes.length = 0;
+    foreign.bytes[0] = 0x14;
+    state[0] = 6;
+    NOTHING(small_room, 2);
+    NOTHING(no_bytes, 3);
+    NOTHING(foreign, 3);
+    foreign.read = false;
+    NOTHING(foreign, 3);
+    CHECK(state[0], 6);
+    state[0] = 8;
+    NOTHING(READ(0x09), 1);
+    NOTHING(WRITE(0x02, 10, 0), 1);
+    CHECK(state[0], 8);
+    state[SNATCHBLOCK_HOST + 8] = 2;
+    NOTHING(READ(0x09), 1);
+    new_state();
+}
+
+/* A sample refused stores nothing. */
+static void refused_samples(void)
+{
+    uint8_t room[SNATCHBLOCK_BROADCAST_ROOM];
+    CHECK(snatchblock_sample(across(1, false), SNATCHBLOCK_AREA, 14800, 0, 2981, 1000, room, sizeof room - 1), 2);
+    CHECK(memcmp(seam - 1, state, sizeof state), 0);
+    state[0] = 8;
+    CHECK(snatchblock_sample(across(1, false), SNATCHBLOCK_AREA, 14800, 0, 2981, 1000, room, sizeof room), 1);
+    CHECK(memcmp(seam - 1, state, sizeof state), 0);
+    new_state();
+}
+
+/* ---- that a store shows */
+
+/* In a child a store past the seam is what was asked; in the test itself it is a failure. */
+static void faulted(int number)
+{
+    (void)number;
+    _exit(FAULT);
+}
+
+static void strayed(int number)
+{
+    static const char words[] = "stores: a byte was stored that the call doesn't owe\n";
+    (void)number;
+    _exit(write(STDOUT_FILENO, words, sizeof words - 1) < 0 ? 2 : 1);
+}
+
+/* Whether a call that stores more ends there, tried in a child. */
+static bool faults(uint8_t *area, const struct call *c)
+{
+    fflush(stdout);
+    pid_t child = fork();
+    if (child == 0) {
+        uint8_t room[SNATCHBLOCK_REPLY_ROOM];
+        signal(SIGSEGV, faulted);
+        signal(SIGBUS, faulted);
+        (void)(c ? made(area, c, room) : snatchblock_sample(area, SNATCHBLOCK_AREA, 14800, 0, 2981, 1000, room, sizeof room));
+        _exit(0);
+    }
+    int status = 0;
+    if (child < 0 || waitpid(child, &status, 0) != child) {
+        perror("stores: child");
+        _exit(2);
+    }
+    return WIFEXITED(status) && WEXITSTATUS(status) == FAULT;
+}
+
+/* A served write stores what the host wrote and the timers, so none of the recent currents; a served sample all. */
+static void shown(void)
+{
+    for (unsigned command = 0x00; command <= 0x04; command++) {
+        struct call write = WRITE((uint8_t)command, 0x34, 0xF2);
+        CHECK(faults(across(1, true), &write), true);
+        stores_at(__LINE__, SNATCHBLOCK_RECENT, true, write, 0);
+    }
+    struct call read = READ(0x09), foreign = READ(0x09);
+    foreign.bytes[0] = 0x14;
+    CHECK(faults(across(1, true), &read), false);
+    CHECK(faults(across(1, false), &read), true);
+    CHECK(faults(across(1, false), &foreign), false);
+    CHECK(faults(across(SNATCHBLOCK_RECENT, true), NULL), true);
+}
+
+int main(void)
+{
+    signal(SIGSEGV, strayed);
+    signal(SIGBUS, strayed);
+    map_pages();
+    new_state();
+    refusals();
+    reads();
+    untouched();
+    refused_samples();
+    shown();
+    printf("stores: %u checks passed, %u failed\n", passed, failed);
+    return failed > 0;
+}
