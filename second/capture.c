@@ -33,15 +33,32 @@ int sb2_walk_begin(struct sb2_bytes capture, struct sb2_walk *walk)
     return SB2_SERVED;
 }
 
-/* Shows the row at the walk's place and steps behind it (rule: Pack sheet and capture). */
+/* 14 where the walk's place, the table's end, the bytes' length or the walk's row shows that they are no capture; no other
+ * row is looked at (rule: Pack sheet and capture; docs/DECISIONS.md, 17). */
+int sb2_walk_test(const struct sb2_walk *walk)
+{
+    struct sb2_bytes capture = walk->capture;
+    if (walk->place == 0 || capture.length == 0 || capture.length > SB2_CAPTURE_MOST)
+        return SB2_NOT_A_CAPTURE;
+    size_t rows = capture.at[0];
+    if (capture.length < 1 + 2 * rows)
+        return SB2_NOT_A_CAPTURE;
+    if (walk->row >= rows)
+        return SB2_SERVED;
+    const uint8_t *head = capture.at + 1 + 2 * walk->row;
+    return head[0] > 1 || head[1] > SB2_MESSAGE_MOST ? SB2_NOT_A_CAPTURE : SB2_SERVED;
+}
+
+/* Shows the row at the walk's place, which is past the table, and steps behind it (rule: Pack sheet and capture). */
 bool sb2_walk_next(struct sb2_walk *walk, struct sb2_row *row)
 {
     struct sb2_row none = {false, {0, 0}};
     *row = none;
-    if (walk->capture.length == 0 || walk->row >= walk->capture.at[0])
+    if (sb2_walk_test(walk) != SB2_SERVED || walk->row >= walk->capture.at[0])
         return false;
+    size_t table_end = 1 + 2 * (size_t)walk->capture.at[0];
     const uint8_t *head = walk->capture.at + 1 + 2 * walk->row;
-    if (walk->place > walk->capture.length || walk->capture.length - walk->place < head[1])
+    if (walk->place < table_end || walk->place > walk->capture.length || walk->capture.length - walk->place < head[1])
         return false;
     row->read = head[0] == 1;
     row->body.offset = walk->place;

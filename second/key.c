@@ -124,15 +124,14 @@ int sb2_key_read(struct sb2_bytes key, struct sb2_key *parts)
     return SB2_SERVED;
 }
 
-/* 13 unless the bytes are one escaped name, 12 for a room shorter than it, else its plain bytes (rule: Key). */
+/* 13 unless the bytes are one escaped name of at most 32 bytes, 12 for a room shorter than it, else its plain bytes
+ * (rule: Key). */
 int sb2_key_unescape(struct sb2_bytes name, uint8_t *room, size_t room_length, size_t *length)
 {
     *length = 0;
     size_t end = 0;
     size_t count;
-    if (name.length > 64) /* no name of a key is shown so long */
-        return SB2_NOT_A_KEY;
-    if (!pass_name(name, &end, &count) || end != name.length)
+    if (!pass_name(name, &end, &count) || end != name.length || count > SB2_NAME_MOST)
         return SB2_NOT_A_KEY;
     if (room_length < count)
         return SB2_CANNOT_WRITE;

@@ -246,7 +246,7 @@ int sb2_key_write(struct sb2_bytes maker, struct sb2_bytes device, uint16_t date
 /* Reads a key: answers 0 with its parts, or 13 with none (rule: Key). */
 int sb2_key_read(struct sb2_bytes key, struct sb2_key *parts);
 
-/* Writes the plain bytes of an escaped name of up to 64 bytes: answers 0, 13 for bytes that are none, or 12 for a
+/* Writes the plain bytes of an escaped name of up to 32 plain bytes: answers 0, 13 for bytes that are none, or 12 for a
  * room that is shorter than the plain name (rule: Key; a decision shared with the library). */
 int sb2_key_unescape(struct sb2_bytes name, uint8_t *room, size_t room_length, size_t *length);
 
@@ -294,8 +294,12 @@ int sb2_capture_test(struct sb2_bytes capture);
 /* Starts a walk: answers 0, or 14 with a walk over nothing (rule: Pack sheet and capture). */
 int sb2_walk_begin(struct sb2_bytes capture, struct sb2_walk *walk);
 
-/* Takes the next row; false, and an empty row, when none is left or its body isn't there at the walk's place
- * (rule: Pack sheet and capture). */
+/* What the next row's step answers: 14 where it sees that the bytes are no capture, 0 else. The whole is tested when a
+ * walk begins (rule: Pack sheet and capture; docs/DECISIONS.md, 17). */
+int sb2_walk_test(const struct sb2_walk *walk);
+
+/* Takes the next row; false, and an empty row, when none is left, its step answers 14 or its body isn't there at the
+ * walk's place (rule: Pack sheet and capture). */
 bool sb2_walk_next(struct sb2_walk *walk, struct sb2_row *row);
 
 #endif

@@ -289,7 +289,8 @@ enum other {
     AT_RATE_OK = TIME_IN_POWER + 12, STATUS_SET = AT_RATE_OK + 4, STATUS_CLEAR = STATUS_SET + 16,
     BIT_4_WAS_CLEAR = STATUS_CLEAR + 16, BIT_4_WAS_SET = BIT_4_WAS_CLEAR + 3, MESSAGES_0 = BIT_4_WAS_SET + 3, MESSAGES_1,
     MESSAGES_2, MESSAGES_3, MESSAGES_4, ALARM_BIT, COUNTER_WRAPPED = ALARM_BIT + 16, HOLD_RAN_OUT, EXCHANGE_RIGHT,
-    EXCHANGE_WRONG, BLOCK_SERVICE, BLOCK_FACTORY, BLOCK_NEITHER, STEP_ROW, STEP_END, OTHERS
+    EXCHANGE_WRONG, BLOCK_SERVICE, BLOCK_FACTORY, BLOCK_NEITHER, STEP_ROW, STEP_ROW_OF_OTHERS, STEP_PAST_LAST,
+    STEP_IN_TABLE, STEP_PAST_END, STEP_AT_0, STEP_CUT_TABLE, STEP_TOO_LONG, STEP_MISFIT, OTHERS
 };
 static uint64_t other[OTHERS];
 
@@ -913,6 +914,8 @@ static void play_keys(void)
 
 /* ---- captures */
 
+enum { MORE = 64 }; /* bytes beyond the longest capture */
+
 static size_t some_capture(uint8_t *at)
 {
     size_t rows = one_in(200) ? below(256) : below(12);
@@ -926,7 +929,7 @@ static size_t some_capture(uint8_t *at)
         place += length;
     }
     size_t bent = below(1 + 2 * (uint32_t)rows);
-    switch (below(10)) {
+    switch (below(12)) {
     case 0: return below((uint32_t)place + 1);
     case 1: return place + 1;
     case 2: at[bent] ^= (uint8_t)(1u << below(8)); return place;
@@ -938,8 +941,31 @@ static size_t some_capture(uint8_t *at)
         at[2 * rows] = (uint8_t)(37 + below(2));
         fill(at + place, 38);
         return place + at[2 * rows];
+    case 5: return one_in(5) ? SB2_CAPTURE_MOST + below(MORE) : place;
     default: return place;
     }
+}
+
+/* What a step meets first, for the tally. */
+static enum other step_meets(struct sb2_bytes capture, size_t row, size_t place)
+{
+    size_t rows = capture.length ? capture.at[0] : 0;
+    if (place == 0)
+        return STEP_AT_0;
+    if (capture.length < 1 + 2 * rows)
+        return STEP_CUT_TABLE;
+    if (capture.length > SB2_CAPTURE_MOST)
+        return STEP_TOO_LONG;
+    if (row >= rows)
+        return STEP_PAST_LAST;
+    size_t length = capture.at[2 + 2 * row];
+    if (capture.at[1 + 2 * row] > 1 || length > SB2_MESSAGE_MOST)
+        return STEP_MISFIT;
+    if (place < 1 + 2 * rows)
+        return STEP_IN_TABLE;
+    if (place > capture.length || capture.length - place < length)
+        return STEP_PAST_END;
+    return sb2_capture_test(capture) == SB2_SERVED ? STEP_ROW : STEP_ROW_OF_OTHERS;
 }
 
 static uint64_t play_step(struct sb2_bytes capture, size_t row, size_t place)
@@ -948,19 +974,38 @@ static uint64_t play_step(struct sb2_bytes capture, size_t row, size_t place)
     struct sb2_row found;
     begin("step_capture", 1, NO_AREA, false);
     note(row), note(place);
-    uint64_t second = (uint64_t)sb2_capture_test(capture);
+    uint64_t second = (uint64_t)sb2_walk_test(&walk);
     if (second == SB2_SERVED && sb2_walk_next(&walk, &found))
         second = 1u << 8 | (uint64_t)found.read << 9 | (uint64_t)found.body.length << 16 | (uint64_t)walk.place << 32;
     compare(snatchblock_step_capture(capture.at, capture.length, row, place), second);
     came_up(STEP, second);
-    if ((second & 0xFF) == 0)
-        other[second ? STEP_ROW : STEP_END]++;
+    other[step_meets(capture, row, place)]++;
     return second;
+}
+
+static size_t some_row(void)
+{
+    switch (below(8)) {
+    case 0: return (size_t)draw();
+    case 1: return (size_t)1 << 63;
+    default: return below(14);
+    }
+}
+
+static size_t some_place(struct sb2_bytes capture)
+{
+    switch (below(8)) {
+    case 0: return (size_t)draw();
+    case 1: return 0;
+    case 2: return capture.length - below(SB2_MESSAGE_MOST + 1); /* below 0 it wraps */
+    case 3: return below(26);
+    default: return below(300);
+    }
 }
 
 static void play_captures(void)
 {
-    static uint8_t bytes[SB2_CAPTURE_MOST + 2];
+    static uint8_t bytes[SB2_CAPTURE_MOST + MORE];
     struct sb2_walk walk;
     size_t length = some_capture(bytes);
     struct sb2_bytes capture = lend(0, bytes, length);
@@ -978,8 +1023,8 @@ static void play_captures(void)
         row++;
         place = step >> 32;
     }
-    for (int i = 0; i < 3; i++)
-        (void)play_step(capture, one_in(4) ? (size_t)draw() : below(14), one_in(4) ? (size_t)draw() : below(300));
+    for (int i = 0; i < 4; i++)
+        (void)play_step(capture, some_row(), some_place(capture));
 }
 
 /* ---- all of it */
@@ -1071,7 +1116,9 @@ static bool tally(void)
         {"holds that ran out", HOLD_RAN_OUT, HOLD_RAN_OUT},
         {"exchanges accepted, and not", EXCHANGE_RIGHT, EXCHANGE_WRONG},
         {"names of the service sheet, the factory's, neither", BLOCK_SERVICE, BLOCK_NEITHER},
-        {"steps to a row, and at the end", STEP_ROW, STEP_END},
+        {"steps to a row, of a capture and of other bytes", STEP_ROW, STEP_ROW_OF_OTHERS},
+        {"past the last row, in the table, past the end", STEP_PAST_LAST, STEP_PAST_END},
+        {"14: at 0, cut table, too long, a row that misfits", STEP_AT_0, STEP_MISFIT},
     };
     for (size_t i = 0; i < sizeof lines / sizeof *lines; i++)
         all = count_other(lines[i].name, lines[i].first, lines[i].last) && all;

@@ -1,14 +1,16 @@
 #!/bin/sh
 # Builds the second program and holds it to published facts: run.sh
-# With SANITIZE=1 it is built once more with the compiler's checks and run so.
+# With SANITIZE=1 it is built with the compiler's checks and run so.
 set -u
 
 here=$(cd "$(dirname "$0")" && pwd -P)
 root=$(cd "$here/../.." && pwd -P)
-out=$root/target/second
+test=tests/second
 cc=${CC:-cc}
-words='-std=c11 -Wall -Wextra -Werror -O2'
-[ -z "${SANITIZE:-}" ] || { words="$words -g -fsanitize=address,undefined -fno-sanitize-recover=all"; out=$root/target/second-checked; }
+. "$root/tools/sanitizer"
+sanitizer "$cc"
+out=$root/target/second$checked
+words="-std=c11 -Wall -Wextra -Werror -O2 $checks"
 
 mkdir -p "$out" || exit 2
 parts=''

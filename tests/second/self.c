@@ -822,8 +822,47 @@ static void captures(void)
     CHECK(sb2_capture_test(bytes(long_row, 3 + 37)), 0);
     CHECK(sb2_walk_begin(nothing, &walk), 14);
     CHECK(sb2_walk_next(&walk, &row), false);
+    CHECK(sb2_walk_test(&walk), 14);
     CHECK(sb2_walk_begin(BYTES(0), &walk), 0);
     CHECK(sb2_walk_next(&walk, &row), false);
+    CHECK(sb2_walk_test(&walk), 0);
+}
+
+/* A step from a row and a place: 14, 0 where it has no row, else 256 and the next place. */
+static size_t step(struct sb2_bytes capture, size_t at_row, size_t place)
+{
+    struct sb2_walk walk = {capture, at_row, place};
+    struct sb2_row row;
+    int answer = sb2_walk_test(&walk);
+    bool found = sb2_walk_next(&walk, &row);
+    return answer != 0 ? (size_t)answer : found ? 256 + walk.place : 0;
+}
+
+static void steps(void)
+{
+    CHECK(step(BYTES(2, 0, 1, 1, 2, 7, 8, 9), 0, 5), 256 + 6);
+    CHECK(step(BYTES(2, 0, 1, 1, 2, 7, 8, 9), 1, 6), 256 + 8);
+    CHECK(step(BYTES(2, 0, 1, 1, 2, 7, 8, 9), 1, 5), 256 + 7);
+    CHECK(step(BYTES(2, 0, 1, 1, 2, 7, 8, 9), 2, 8), 0);
+    CHECK(step(BYTES(2, 0, 1, 1, 2, 7, 8, 9), (size_t)1 << 63, 5), 0);
+    CHECK(step(BYTES(2, 0, 1, 1, 2, 7, 8, 9), 1, 7), 0);
+    CHECK(step(BYTES(2, 0, 1, 1, 2, 7, 8, 9), 1, SIZE_MAX), 0);
+    for (size_t in_table = 1; in_table < 5; in_table++)
+        CHECK(step(BYTES(2, 0, 1, 1, 2, 7, 8, 9), 0, in_table), 0);
+    for (size_t row = 0; row < 4; row++)
+        CHECK(step(BYTES(2, 0, 1, 1, 2, 7, 8, 9), row, 0), 14);
+    /* no captures: too few bytes for the table, for the last body; a mark of 2, a length of 38 */
+    CHECK(step(nothing, 0, 1), 14);
+    CHECK(step(BYTES(2, 0, 1, 1), 0, 5), 14);
+    CHECK(step(BYTES(2, 0, 1, 1, 2, 7, 8), 1, 6), 0);
+    CHECK(step(BYTES(2, 0, 1, 2, 2, 7, 8, 9), 0, 5), 256 + 6);
+    CHECK(step(BYTES(2, 0, 1, 2, 2, 7, 8, 9), 1, 6), 14);
+    uint8_t longer[SB2_CAPTURE_MOST + 1] = {255, 0, 37, 0, 38};
+    CHECK(step(bytes(longer, SB2_CAPTURE_MOST), 0, 511), 256 + 548);
+    CHECK(step(bytes(longer, SB2_CAPTURE_MOST), 1, 548), 14);
+    CHECK(step(bytes(longer, SB2_CAPTURE_MOST), 255, 548), 0);
+    CHECK(step(bytes(longer, SB2_CAPTURE_MOST + 1), 0, 511), 14);
+    CHECK(step(bytes(longer, SB2_CAPTURE_MOST + 1), 255, 548), 14);
 }
 
 static void keys(void)
@@ -874,11 +913,13 @@ static void keys(void)
     CHECK(sb2_key_unescape(bytes(room, 64), name, 32, &length), 0);
     CHECK(length, 32);
     CHECK(memcmp(name, names, 32), 0);
-    memset(other, 'm', 65);
-    CHECK(sb2_key_unescape(bytes(other, 64), room, 64, &length), 0);
-    CHECK(length, 64);
-    CHECK(sb2_key_unescape(bytes(other, 64), room, 63, &length), 12);
-    CHECK(sb2_key_unescape(bytes(other, 65), room, sizeof room, &length), 13);
+    room[64] = 'm'; /* a 33rd plain byte */
+    CHECK(sb2_key_unescape(bytes(room, 65), other, sizeof other, &length), 13);
+    memset(other, 'm', 33);
+    CHECK(sb2_key_unescape(bytes(other, 32), room, 32, &length), 0);
+    CHECK(length, 32);
+    CHECK(sb2_key_unescape(bytes(other, 32), room, 31, &length), 12);
+    CHECK(sb2_key_unescape(bytes(other, 33), room, sizeof room, &length), 13);
     CHECK(sb2_key_write(bytes(names, 32), bytes(names, 32), 0, 0, room, 138, &length), 12);
     CHECK(sb2_key_write(bytes(names, 33), nothing, 0, 0, room, 139, &length), 12);
     CHECK(sb2_key_write(nothing, bytes(names, 33), 0, 0, room, 139, &length), 12);
@@ -1040,6 +1081,7 @@ int main(void)
     clock_and_broadcasts();
     sheets();
     captures();
+    steps();
     keys();
     areas();
     long_work();
