@@ -1,14 +1,17 @@
 # Two commands: `make demo` does the main job, `make test` is the whole gate.
-.PHONY: help demo play keys pec firmware test bench clean
+.PHONY: help demo play keys hut pec firmware test bench install uninstall clean
 
 help:
 	@echo 'make demo              plays captures/class.capture, a recorded visit to the bus'
 	@echo 'make play CAPTURE=file plays another capture'
 	@echo 'make keys              two packs that a dash makes one, and their two keys'
+	@echo 'make hut               five minutes of a pack in a hut, and what it broadcasts'
 	@echo 'make pec BYTES="16 02" the check byte of a message; with no bytes, the worked examples'
 	@echo 'make firmware          a day of a C firmware over the proved library, and its plot'
 	@echo 'make test              the whole gate: every proof, every must-fail edit, every test'
 	@echo 'make bench             instruction counts beside the same code in C (not part of the gate)'
+	@echo 'make install           library, header and pkg-config file under PREFIX=/usr/local'
+	@echo 'make uninstall         takes them away'
 
 CAPTURE ?= captures/class.capture
 
@@ -18,11 +21,15 @@ demo play: target/bin/player
 keys: target/bin/key_demo
 	@tools/run target/bin/key_demo
 
+hut: target/bin/hut
+	@tools/run target/bin/hut
+
 pec: target/bin/pec_demo
 	@tools/run target/bin/pec_demo $(BYTES)
 
 # A program is proved before it is built; what the check prints is shown only where it fails.
 target/bin/%: FORCE
+	@tools/needs rt
 	@log=$$(mktemp) && { rt check $* >"$$log" 2>&1 || { cat "$$log"; rm -f "$$log"; exit 1; }; rm -f "$$log"; }
 
 FORCE:
@@ -34,8 +41,15 @@ firmware:
 	@examples/firmware/run
 
 bench:
-	@bench/pec.sh
-	@bench/entries.sh
+	@bench/run
+
+PREFIX ?= /usr/local
+
+install:
+	@tools/install "$(PREFIX)"
+
+uninstall:
+	@tools/install remove "$(PREFIX)"
 
 clean:
 	rm -rf target

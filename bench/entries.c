@@ -1,12 +1,13 @@
-/* The proved library's entries beside the second program's, for bench/entries.sh:
- *   entries names           a line for each case
+/* The proved library's entries beside the second program's, for bench/run:
+ *   entries names           a line for each case, and the entry that it calls
  *   entries WHICH REPEAT    each case REPEAT times, each ended by a call of boundary()
  *   entries stack WHICH     the stack that each case takes, in bytes
  * WHICH is p (proved), c (the second program over an area) or s (the second program on its own state). */
-#define _XOPEN_SOURCE 700
+#define _GNU_SOURCE
 #include "snatchblock.h"
 #include "../second/snatchblock2.h"
 
+#include <signal.h>
 #include <stdio.h>
 #include <stdlib.h>
 #include <string.h>
@@ -16,9 +17,10 @@ static uint8_t area[SNATCHBLOCK_AREA];
 static struct sb2_state state;
 static uint8_t room[256];
 static uint8_t text[4096];
-static uint8_t letters[1024];
+static uint8_t letters[1024], strokes[64];
 static uint8_t sheet[145];
 static uint8_t capture[1 + 40 * 39];
+static uint8_t walked[1 + 255 * 39];
 static uint8_t key[139];
 static size_t sheet_length, capture_length, key_length, size;
 static uint32_t counter;
@@ -36,8 +38,9 @@ static struct sb2_bytes of(const uint8_t *at, size_t length)
 
 static void nothing(void) {}
 
-static void pec_p(void) { sink = snatchblock_pec(text, size); }
-static void pec_c(void) { sink = sb2_pec(of(text, size)); }
+static uint8_t long_text[65536];
+static void pec_p(void) { sink = snatchblock_pec(long_text, size); }
+static void pec_c(void) { sink = sb2_pec(of(long_text, size)); }
 
 static void exchange_p(void) { sink = snatchblock_exchange_check(text, size); }
 static void exchange_c(void)
@@ -70,6 +73,10 @@ static void transact_s(void)
     sink = (uint64_t)sb2_transact(&state, reading, of(message, message_length), of(sheet, sheet_length),
                                   of(sheet, sheet_length), room, 34, &length);
 }
+
+static void sound_p(void) { sink = snatchblock_sound(area, sizeof area); }
+static void sound_c(void) { sink = sb2_area_sound(of(area, sizeof area)); }
+static void sound_s(void) { sink = sb2_sound(&state); }
 
 /* 1 ms on: no message is due. */
 static void quiet_p(void) { sink = snatchblock_sample(area, sizeof area, 14800, -5, 2981, ++counter, room, 16); }
@@ -128,6 +135,14 @@ static void unescape_c(void)
     sink = (uint64_t)sb2_key_unescape(of(letters, size), room, sizeof room, &length);
 }
 
+/* a name of 32 strokes, each escaped */
+static void unescape_strokes_p(void) { sink = snatchblock_unescape(strokes, size, room, sizeof room); }
+static void unescape_strokes_c(void)
+{
+    size_t length;
+    sink = (uint64_t)sb2_key_unescape(of(strokes, size), room, sizeof room, &length);
+}
+
 static void is_sheet_p(void) { sink = snatchblock_is_sheet(sheet, sheet_length); }
 static void is_sheet_c(void) { sink = sb2_sheet_good(of(sheet, sheet_length)); }
 static void write_sheet_p(void)
@@ -159,8 +174,29 @@ static void step_c(void)
 {
     struct sb2_walk walk = {of(capture, capture_length), 0, 81};
     struct sb2_row row;
-    sink = (uint64_t)sb2_capture_test(walk.capture);
     sink = sb2_walk_next(&walk, &row);
+}
+
+/* a whole walk: opened once, then a step for each row and one at the end */
+static void walk_p(void)
+{
+    uint64_t place = snatchblock_open_capture(walked, 1 + size * 39) >> 16, step = 0;
+    for (size_t row = 0; ; row++) {
+        step = snatchblock_step_capture(walked, 1 + size * 39, row, place);
+        if ((step >> 8 & 1) == 0)
+            break;
+        place = step >> 32;
+    }
+    sink = step + place;
+}
+static void walk_c(void)
+{
+    struct sb2_walk walk;
+    struct sb2_row row;
+    (void)sb2_walk_begin(of(walked, 1 + size * 39), &walk);
+    while (sb2_walk_next(&walk, &row))
+        ;
+    sink = walk.place;
 }
 
 static void set_up_p(void)
@@ -171,6 +207,40 @@ static void set_up_p(void)
 static const struct sb2_set_up figures = {4000, 4000, 2000, 14800, 2, 7, 0x526F, 17, 2000, 16800, 3182, 11000, {14800, -1500, 2981, 0}};
 static void set_up_c(void) { sink = (uint64_t)sb2_area_set_up(area, sizeof area, &figures); }
 static void set_up_s(void) { sink = (uint64_t)sb2_set_up(&state, &figures); }
+
+/* The entry of the header that a proved call is of. */
+static const struct {
+    void (*call)(void);
+    const char *entry;
+} calls[] = {
+    {set_up_p, "snatchblock_set_up"},
+    {sound_p, "snatchblock_sound"},
+    {quiet_p, "snatchblock_sample"},
+    {loud_p, "snatchblock_sample"},
+    {transact_p, "snatchblock_transact"},
+    {pec_p, "snatchblock_pec"},
+    {exchange_p, "snatchblock_exchange_check"},
+    {bits_p, "snatchblock_bit_comparison"},
+    {write_key_p, "snatchblock_write_key"},
+    {read_key_p, "snatchblock_read_key"},
+    {no_slash_p, "snatchblock_read_key"},
+    {unescape_p, "snatchblock_unescape"},
+    {unescape_strokes_p, "snatchblock_unescape"},
+    {write_sheet_p, "snatchblock_write_sheet"},
+    {is_sheet_p, "snatchblock_is_sheet"},
+    {block_p, "snatchblock_block"},
+    {open_p, "snatchblock_open_capture"},
+    {step_p, "snatchblock_step_capture"},
+};
+
+/* Its name, or - where there is none: a case of more than one, too. */
+static const char *entry_of(void (*call)(void))
+{
+    for (size_t i = 0; i < sizeof calls / sizeof *calls; i++)
+        if (calls[i].call == call)
+            return calls[i].entry;
+    return "-";
+}
 
 /* ---- the cases */
 
@@ -211,7 +281,7 @@ static void add_command(const char *name, bool read, uint8_t command)
 
 static void make_entries(void)
 {
-    static const size_t lengths[] = {1, 2, 4, 5, 6, 8, 16, 37, 256, 4096};
+    static const size_t lengths[] = {2, 3, 4, 5, 6, 8, 10, 12, 16, 24, 37, 65536};
     add("nothing", nothing, nothing, nothing);
     for (size_t i = 0; i < sizeof lengths / sizeof *lengths; i++)
         add_sized("pec", lengths[i], pec_p, pec_c);
@@ -224,13 +294,14 @@ static void make_entries(void)
     add("sample-quiet", quiet_p, quiet_c, quiet_s);
     add("sample-four-messages", loud_p, loud_c, loud_s);
     add("set-up", set_up_p, set_up_c, set_up_s);
+    add("sound", sound_p, sound_c, sound_s);
     add_sized("write-key-names", 8, write_key_p, write_key_c);
     add_sized("write-key-names", 32, write_key_p, write_key_c);
     add("read-key", read_key_p, read_key_c, NULL);
     add_sized("read-key-no-slash", 139, no_slash_p, no_slash_c);
     add_sized("read-key-no-slash", 1024, no_slash_p, no_slash_c);
     add_sized("unescape", 32, unescape_p, unescape_c);
-    add_sized("unescape", 64, unescape_p, unescape_c);
+    add_sized("unescape-strokes", 64, unescape_strokes_p, unescape_strokes_c);
     add("write-sheet", write_sheet_p, write_sheet_c, NULL);
     add("is-sheet", is_sheet_p, is_sheet_c, NULL);
     add("block", block_p, block_c, NULL);
@@ -240,24 +311,49 @@ static void make_entries(void)
     add_sized("comparison", 37, bits_p, bits_c);
     add("open-capture-40-rows", open_p, open_c, NULL);
     add("step-capture-40-rows", step_p, step_c, NULL);
+    add_sized("walk-capture-rows", 51, walk_p, walk_c);
+    add_sized("walk-capture-rows", 255, walk_p, walk_c);
+}
+
+/* A capture of rows of 37 bytes. */
+static void make_capture(uint8_t *at, size_t rows)
+{
+    memset(at, 0, 1 + rows * 39);
+    at[0] = (uint8_t)rows;
+    for (size_t i = 0; i < rows; i++)
+        at[2 + 2 * i] = 37;
+}
+
+/* A long message, and a pack with 60 currents kept, in an area and in a state. */
+static uint8_t start_area[SNATCHBLOCK_AREA];
+static struct sb2_state start_state;
+
+static void make_start(void)
+{
+    for (size_t i = 0; i < sizeof long_text; i += sizeof text)
+        memcpy(long_text + i, text, sizeof text);
+    (void)sb2_area_set_up(start_area, sizeof start_area, &figures);
+    (void)sb2_set_up(&start_state, &figures);
+    uint8_t at_rate[] = {0x16, 0x04, 0x0C, 0xFE};
+    size_t length;
+    (void)sb2_area_transact(start_area, sizeof start_area, false, of(at_rate, 4), of(sheet, sheet_length), of(sheet, sheet_length), room, 34, &length);
+    (void)sb2_transact(&start_state, false, of(at_rate, 4), of(sheet, sheet_length), of(sheet, sheet_length), room, 34, &length);
+    for (uint32_t i = 1; i < 60; i++) {
+        struct sb2_sample sample = {14800, -1500, 2981, i};
+        (void)sb2_area_take_sample(start_area, sizeof start_area, &sample, room, 16, &length);
+        (void)sb2_take_sample(&start_state, &sample, room, 16, &length);
+    }
 }
 
 /* The same start for each case and each program. */
 static void prepare(const struct entry *e)
 {
-    (void)sb2_area_set_up(area, sizeof area, &figures);
-    (void)sb2_set_up(&state, &figures);
-    uint8_t at_rate[] = {0x16, 0x04, 0x0C, 0xFE};
-    size_t length;
-    (void)sb2_area_transact(area, sizeof area, false, of(at_rate, 4), of(sheet, sheet_length), of(sheet, sheet_length), room, 34, &length);
-    (void)sb2_transact(&state, false, of(at_rate, 4), of(sheet, sheet_length), of(sheet, sheet_length), room, 34, &length);
-    for (uint32_t i = 1; i < 60; i++) { /* 60 currents kept */
-        struct sb2_sample sample = {14800, -1500, 2981, i};
-        (void)sb2_area_take_sample(area, sizeof area, &sample, room, 16, &length);
-        (void)sb2_take_sample(&state, &sample, room, 16, &length);
-    }
+    memcpy(area, start_area, sizeof area);
+    state = start_state;
     counter = 100;
     size = e->size;
+    if (e->call[0] == walk_p)
+        make_capture(walked, size);
     reading = e->reading;
     message[1] = e->command;
     message[2] = reading ? 0x17 : 0x10;
@@ -271,13 +367,13 @@ static void make_data(void)
     for (size_t i = 0; i < sizeof text; i++)
         text[i] = (uint8_t)(i * 73 + 41);
     memset(letters, 0x41, sizeof letters);
+    for (size_t i = 0; i < sizeof strokes; i++)
+        strokes[i] = i % 2 == 0 ? 0x5C : 0x2F;
     struct sb2_body body = {true, of(text, 32)};
     struct sb2_body bodies[4] = {body, body, body, body};
     (void)sb2_sheet_write(bodies, sheet, sizeof sheet, &sheet_length);
     (void)sb2_key_write(of(text, 32), of(text + 64, 32), 0x526F, 17, key, sizeof key, &key_length);
-    capture[0] = 40;
-    for (size_t i = 0; i < 40; i++)
-        capture[2 + 2 * i] = 37;
+    make_capture(capture, 40);
     capture_length = sizeof capture;
 }
 
@@ -299,40 +395,76 @@ static void run(int which, unsigned long repeat)
     }
 }
 
-enum { STACK = 1 << 18, PAINT = 0xC3 };
+enum { STACK = 1 << 18, PAINT = 0xC3, TRAP_FLAG = 0x100 };
 static uint8_t stack[STACK] __attribute__((aligned(64)));
+static uint8_t trap_stack[1 << 16];
 static ucontext_t home, away;
-static void (*painted_call)(void);
+static void (*stacked_call)(void);
+static bool stepping;
+static uint8_t *lowest;
 
-static void on_painted(void)
+/* After each instruction: where the stack pointer stands. */
+static void trapped(int signal_number, siginfo_t *info, void *context)
 {
-    painted_call();
+    (void)signal_number;
+    (void)info;
+    uint8_t *pointer = (uint8_t *)((ucontext_t *)context)->uc_mcontext.gregs[REG_RSP];
+    if (pointer >= stack && pointer < lowest)
+        lowest = pointer;
 }
 
-/* The bytes of a painted stack that a call touches. */
-static size_t stack_of(void (*call)(void))
+static void on_stack(void)
 {
-    memset(stack, PAINT, sizeof stack);
-    painted_call = call;
+    if (stepping)
+        __asm__ volatile("pushfq; orq %0, (%%rsp); popfq" ::"i"(TRAP_FLAG) : "memory", "cc");
+    stacked_call();
+    if (stepping)
+        __asm__ volatile("pushfq; andq %0, (%%rsp); popfq" ::"i"(~TRAP_FLAG) : "memory", "cc");
+}
+
+static void call_on_stack(void (*call)(void), bool steps)
+{
+    stacked_call = call;
+    stepping = steps;
     getcontext(&away);
     away.uc_stack.ss_sp = stack;
     away.uc_stack.ss_size = sizeof stack;
     away.uc_link = &home;
-    makecontext(&away, on_painted, 0);
+    makecontext(&away, on_stack, 0);
     swapcontext(&home, &away);
+}
+
+static void catch_traps(void)
+{
+    stack_t other = {.ss_sp = trap_stack, .ss_size = sizeof trap_stack};
+    struct sigaction action = {.sa_sigaction = trapped, .sa_flags = SA_SIGINFO | SA_ONSTACK};
+    sigaltstack(&other, NULL);
+    sigaction(SIGTRAP, &action, NULL);
+}
+
+/* The bytes of stack that a call takes, in whole words: down to the lowest byte of a painted stack that it touches, or
+ * to the lowest place of the stack pointer where that is lower. */
+static size_t stack_of(const struct entry *e, void (*call)(void))
+{
+    prepare(e);
+    memset(stack, PAINT, sizeof stack);
+    call_on_stack(call, false);
     size_t untouched = 0;
     while (untouched < sizeof stack && stack[untouched] == PAINT)
         untouched++;
-    return sizeof stack - untouched;
+    prepare(e);
+    lowest = stack + sizeof stack;
+    call_on_stack(call, true);
+    size_t below = (size_t)(lowest - stack);
+    return sizeof stack - (untouched < below ? untouched : below) / 8 * 8;
 }
 
 static void stacks(int which)
 {
-    size_t base = stack_of(nothing);
-    for (size_t i = 0; i < count; i++) {
-        prepare(&entries[i]);
-        printf("%s %zu\n", entries[i].name, stack_of(entries[i].call[which]) - base);
-    }
+    catch_traps();
+    size_t base = stack_of(&entries[0], nothing);
+    for (size_t i = 0; i < count; i++)
+        printf("%s %zu\n", entries[i].name, stack_of(&entries[i], entries[i].call[which]) - base);
 }
 
 static int which_of(const char *word)
@@ -343,10 +475,11 @@ static int which_of(const char *word)
 int main(int given, char **words)
 {
     make_data();
+    make_start();
     make_entries();
     if (given == 2 && strcmp(words[1], "names") == 0) {
         for (size_t i = 0; i < count; i++)
-            puts(entries[i].name);
+            printf("%s %s\n", entries[i].name, entry_of(entries[i].call[0]));
     } else if (given == 3 && strcmp(words[1], "stack") == 0) {
         stacks(which_of(words[2]));
     } else if (given == 3) {
