@@ -1,6 +1,7 @@
 /* Holds the C interface of the proved library to document 01's figures: every function, every answer number,
  * areas of every size to twice the right one, rooms of every size to 200 with guard bytes around, and slices
  * of no bytes. */
+#include "check.h"
 #include "snatchblock.h"
 
 #include <stdio.h>
@@ -8,19 +9,6 @@
 
 enum { REPLY_ROOM = 34, BROADCAST_ROOM = 16, KEY_ROOM = 139, SHEET_ROOM = 145 };
 enum { AREA_MOST = 2 * SNATCHBLOCK_AREA, ROOM_MOST = 200, GUARD = 24, MARK = 0xA5 };
-
-static unsigned passed, failed;
-
-static void check_at(int line, const char *what, unsigned long long got, unsigned long long wanted)
-{
-    if (got == wanted) {
-        passed++;
-        return;
-    }
-    failed++;
-    printf("line %d: %s: %llx, not %llx\n", line, what, got, wanted);
-}
-#define CHECK(got, wanted) check_at(__LINE__, #got, (unsigned long long)(got), (unsigned long long)(wanted))
 
 /* The answer number and what stands above it in a packed result. */
 #define PACKED(answer, rest) ((unsigned long long)(answer) | (unsigned long long)(rest) << 8)
@@ -796,6 +784,5 @@ int main(void)
     blocks();
     bad_sheets();
     captures();
-    printf("c: %u checks passed, %u failed\n", passed, failed);
-    return failed > 0;
+    return checked("c");
 }

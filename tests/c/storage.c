@@ -1,5 +1,6 @@
 /* An area kept for sixty days, as the header says to keep one: what the first sample afterwards does to the charge, with
  * current 0 and with another one, by document 01's rule; and which damage of the stored bytes their PEC shows. */
+#include "check.h"
 #include "snatchblock.h"
 
 #include <stdio.h>
@@ -7,19 +8,6 @@
 
 enum { STORED = SNATCHBLOCK_AREA + 1, STORED_BITS = 8 * STORED, CHARGE = SNATCHBLOCK_TANK, COUNTER = SNATCHBLOCK_LATEST + 6 };
 enum { FULL = 12000, MS_PER_HOUR = 3600000 };
-
-static unsigned passed, failed;
-
-static void check_at(int line, const char *what, unsigned long long got, unsigned long long wanted)
-{
-    if (got == wanted) {
-        passed++;
-        return;
-    }
-    failed++;
-    printf("storage: line %d: %s: %llu, not %llu\n", line, what, got, wanted);
-}
-#define CHECK(got, wanted) check_at(__LINE__, #got, (unsigned long long)(got), (unsigned long long)(wanted))
 
 /* ---- the pack */
 
@@ -285,6 +273,5 @@ int main(void)
     pairs();
     many_bits();
     sound_is_no_test();
-    printf("storage: %u checks passed, %u failed\n", passed, failed);
-    return failed > 0;
+    return checked("storage");
 }

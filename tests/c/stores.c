@@ -2,6 +2,7 @@
  * stands after it may be read alone. A store past what the call owes ends the process, and each call is held to the
  * same call on an area in plain memory. Plain C11 and POSIX. */
 #define _DEFAULT_SOURCE
+#include "check.h"
 #include "snatchblock.h"
 
 #include <signal.h>
@@ -13,19 +14,6 @@
 
 /* A whole number of pages on every processor that we know. */
 enum { PAGE = 65536, FAULT = 3, MARK = 0xA5 };
-
-static unsigned passed, failed;
-
-static void check_at(int line, const char *what, unsigned long long got, unsigned long long wanted)
-{
-    if (got == wanted) {
-        passed++;
-        return;
-    }
-    failed++;
-    printf("stores: line %d: %s: %llx, not %llx\n", line, what, got, wanted);
-}
-#define CHECK(got, wanted) check_at(__LINE__, #got, (unsigned long long)(got), (unsigned long long)(wanted))
 
 #define PACKED(answer, length) ((uint32_t)(answer) | (uint32_t)(length) << 8)
 
@@ -244,6 +232,5 @@ int main(void)
     untouched();
     refused_samples();
     shown();
-    printf("stores: %u checks passed, %u failed\n", passed, failed);
-    return failed > 0;
+    return checked("stores");
 }
