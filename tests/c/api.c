@@ -4,7 +4,6 @@
 #include "check.h"
 #include "snatchblock.h"
 
-#include <stdio.h>
 #include <string.h>
 
 enum { REPLY_ROOM = 34, BROADCAST_ROOM = 16, KEY_ROOM = 139, SHEET_ROOM = 145 };

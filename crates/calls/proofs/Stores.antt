@@ -58,6 +58,23 @@ written-put area s n ef eh et =
     let timers = lent (E ++ S ++ H ++ M) (drop timersAt area) R timersAt (bytesTaken timersWidths) (host ∙ past) wide in
     rw (eh, et) (timers ∙ ap (λ (l : List ℕ). E ++ S ++ H ++ M ++ R ++ l) (drop-drop (bytesTaken timersWidths) timersAt area))
 
+-- ---- which of them there are
+
+pub stores-parts : (area : List ℕ) (read : Bool) (answer : ℕ) (state : State) → (eqb answer 0 && not read) ≡ true
+    → transactStored area read answer state ≡ writtenStored area state
+unfolding transactStored
+stores-parts area read answer state e = rw e
+
+pub stores-nothing : (area : List ℕ) (read : Bool) (answer : ℕ) (state : State) → (eqb answer 0 && not read) ≡ false → (ltb 0 answer && leb answer 3) ≡ true
+    → transactStored area read answer state ≡ area
+unfolding transactStored
+stores-nothing area read answer state e f = rw (e, f)
+
+pub stores-error : (area : List ℕ) (read : Bool) (answer : ℕ) (state : State) → (eqb answer 0 && not read) ≡ false → (ltb 0 answer && leb answer 3) ≡ false
+    → transactStored area read answer state ≡ errorStored area (state .error)
+unfolding transactStored
+stores-error area read answer state e f = rw (e, f)
+
 -- ---- that they are enough
 
 -- the state that a request leaves, by its answer

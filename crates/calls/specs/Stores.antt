@@ -1,4 +1,4 @@
--- What a transaction stores in the area, and no byte more; that this leaves the area of specs/Calls is proved in proofs/Stores.
+-- The area after what a transaction stores of it, part by part; that this is the area of specs/Calls is proved in proofs/Stores.
 -- Definitions: assumes nothing.
 use mathlib.Core.Bool.{Bool, cond, not, _&&_}
 use mathlib.Core.List.{List, _++_}

@@ -55,7 +55,11 @@ TimeTrue =
 abbrev pub RunFits : Type 0
 RunFits = (s : State) (es : List Event) → Fits s → Throughout EventFits s es → Fits (run s es)
 
--- so in every state that is reached from set-up, served or refused
+-- so the currents of the accepted samples are signed 16-bit numbers, as the theorems on charge ask
+abbrev pub AcceptedSigned : Type 0
+AcceptedSigned = (s : State) (es : List Event) → Throughout EventFits s es → Signed16 (acceptedOf s es)
+
+-- and in every state that is reached from set-up, served or refused, fields hold what their types let them hold
 abbrev pub ReachedFits : Type 0
 ReachedFits =
     (u : Setup) (first : Sample) (es : List Event) → SetupFits u → SampleFits first → Throughout EventFits (fromSetUp u first) es

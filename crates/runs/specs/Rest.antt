@@ -12,6 +12,11 @@ use Rattle.pack.specs.declared.State.{State}
 use Rattle.runs.specs.Events.{Event, sample, step, run, answerTo, acceptedOf, timeOf}
 use Rattle.runs.specs.Since.{Signed16, chargeOver, Counted}
 
+-- a sample whose current is 0 changes no charge, whatever its counter says: in any state, in any room, accepted or not (RULES 7.8)
+abbrev pub NoCurrentNoCharge : Type 0
+NoCurrentNoCharge =
+    (s : State) (x : Sample) (n : ℕ) → x .current ≡ pos 0 → step s (sample x n) .pack .tank .charge ≡ s .pack .tank .charge
+
 -- a rest: a sound state, a sample whose current is 0, whatever its counter says, and room enough (RULES 7.8)
 pub record Rest (s : State) (x : Sample) (n : ℕ) : Type 0 where
   pub sound : soundOf s ≡ true
