@@ -1,0 +1,4 @@
+pub mod Arith
+pub mod Lists
+pub mod Low
+pub mod Steps
