@@ -3,7 +3,7 @@
  *
  * A firmware lends an area of SNATCHBLOCK_AREA bytes. It sets the area up once (snatchblock_set_up_from), brings a
  * sample each second (snatchblock_sample_from) and hands over what the bus driver heard (snatchblock_transact).
- * examples/firmware/pack.c does so and can be copied. All else here is for tools: keys, sheets, captures.
+ * examples/firmware/pack.c does so and can be copied. All else here is for tools: keys, sheets, captures, the shelf.
  *
  * To link: libsnatchblock.a alone (`rt staticlib snatchblock`; x86-64 Linux today). It calls the C library's memcpy and
  * nothing else. It has no heap, no variables and no start: all that it knows lies in what a call lends.
@@ -22,7 +22,7 @@
  *
  * Stack, in bytes, the most that was measured of each (`make bench`, x86-64; nothing proves it): transact 2,296;
  * read_key 1,752; unescape 1,656; sample 1,128; sound 440; exchange_check 312; pec 280; write_sheet 128; set_up 112;
- * block 104; write_key 56; bit_comparison, is_sheet, open_capture, step_capture 16.
+ * block 104; shelf_report 80; write_key 56; bit_comparison, is_sheet, open_capture, step_capture 16.
  */
 #ifndef SNATCHBLOCK_H
 #define SNATCHBLOCK_H
@@ -44,9 +44,9 @@ extern "C" {
 enum snatchblock_answer {
     SNATCHBLOCK_SERVED = 0,
     SNATCHBLOCK_NOT_SOUND = 1,         /* no area, or its state isn't sound */
-    SNATCHBLOCK_SMALL_ROOM = 2,        /* a room for a reply under 34 bytes, for broadcasts under 16 */
+    SNATCHBLOCK_SMALL_ROOM = 2,        /* a room for a reply under 34 bytes, for broadcasts or the shelf under 16 */
     SNATCHBLOCK_OTHER_ADDRESS = 3,     /* no bytes, or the first isn't 16 */
-    SNATCHBLOCK_WRONG_FORM = 4,        /* wrong size or form (6, BadSize) */
+    SNATCHBLOCK_WRONG_FORM = 4,        /* wrong size or form (6, BadSize); a shelf's table that isn't whole rows */
     SNATCHBLOCK_WRONG_PEC = 5,         /* a write of five bytes, its PEC wrong (7, UnknownError) */
     SNATCHBLOCK_RESERVED_COMMAND = 6,  /* (2, ReservedCommand) */
     SNATCHBLOCK_COMMAND_NOT_BUILT = 7, /* an optional command that this pack hasn't (3, UnsupportedCommand) */
@@ -57,7 +57,9 @@ enum snatchblock_answer {
     SNATCHBLOCK_NO_FIT = 12,           /* a name or body over 32 bytes, or a room too short for what is to be written */
     SNATCHBLOCK_NOT_A_KEY = 13,
     SNATCHBLOCK_NOT_A_CAPTURE = 14,
-    SNATCHBLOCK_WRONG_LENGTH = 15 /* an exchange outside 2 to 37 bytes; a comparison of unequal lengths or over 37 */
+    SNATCHBLOCK_WRONG_LENGTH = 15, /* an exchange outside 2 to 37 bytes; a comparison of unequal lengths or over 37 */
+    SNATCHBLOCK_TOO_MANY_ROWS = 16, /* a shelf's table of more than 64 rows */
+    SNATCHBLOCK_BAD_ROW = 17        /* a row of it with full or design 0, or with remaining above full */
 };
 
 /*
@@ -67,7 +69,8 @@ enum snatchblock_answer {
  *   result of                         bits: what stands there
  *   all these, and set_up             0-7: the answer
  *   sample, transact, write_key,
- *     unescape, write_sheet           8-31: the bytes written to the front of the room; the rest of it stays
+ *     unescape, write_sheet,
+ *     shelf_report                    8-31: the bytes written to the front of the room; the rest of it stays
  *   exchange_check                    8: right
  *   bit_comparison                    8-31: bits that differ
  *   read_key                          8-15: maker's length   16-23: device's length   24-39: date   40-55: serial
@@ -149,11 +152,12 @@ static inline size_t snatchblock_step_next(uint64_t result) { return (size_t)(re
 #define SNATCHBLOCK_RECENT (SNATCHBLOCK_TIMERS + 12)
 #define SNATCHBLOCK_AREA (SNATCHBLOCK_RECENT + 121)
 
-/* Room that is always enough: for a sample's broadcasts, a transaction's reply, a key, a sheet. Less is refused. */
+/* Room that is always enough: for a sample's broadcasts, a reply, a key, a sheet, a shelf's figures. Less is refused. */
 #define SNATCHBLOCK_BROADCAST_ROOM 16
 #define SNATCHBLOCK_REPLY_ROOM 34
 #define SNATCHBLOCK_KEY_ROOM 139
 #define SNATCHBLOCK_SHEET_ROOM 145
+#define SNATCHBLOCK_SHELF_ROOM 16
 
 /* Whether bytes are an area and its state is sound. */
 bool snatchblock_sound(const uint8_t *area, size_t area_length);
@@ -320,6 +324,76 @@ uint32_t snatchblock_open_capture(const uint8_t *bytes, size_t length);
  * the row has a mark or a length that no capture has.
  */
 uint64_t snatchblock_step_capture(const uint8_t *bytes, size_t length, size_t row, size_t place);
+
+/* ---- the shelf */
+
+/*
+ * Monday's figures over a table of up to 64 packs, 8 bytes a row: remaining, full and design mAh, cycle count, each two
+ * bytes, low byte first. On 0 the first 16 bytes of the room hold the figures, each number low byte first:
+ *
+ *   at  bytes
+ *    0      1  how many packs
+ *    1      4  total remaining, mAh
+ *    5      4  total full, mAh
+ *    9      1  flag: there is a lowest row; of no rows there is none, and the three after it are 0
+ *   10  2 x 2  the lowest remaining / full: that row's remaining, its full
+ *   14      1  its place, from 0, the first on a tie
+ *   15      1  how many have less than one fifth of full remaining
+ *
+ * Answers 0; 2: a room under 16 bytes; 4: the table isn't whole rows; 16: more than 64 rows; 17: a row whose full or
+ * design is 0 or whose remaining is above full. The table is only read.
+ */
+uint32_t snatchblock_shelf_report(const uint8_t *table, size_t table_length, uint8_t *room, size_t room_length);
+
+struct snatchblock_row {
+    uint16_t remaining; /* mAh */
+    uint16_t full;      /* mAh */
+    uint16_t design;    /* mAh */
+    uint16_t cycles;
+};
+
+struct snatchblock_figures {
+    uint8_t packs;
+    uint32_t remaining; /* total, mAh */
+    uint32_t full;      /* total, mAh */
+    bool is_lowest;
+    uint16_t lowest_remaining;
+    uint16_t lowest_full;
+    uint8_t lowest_place;
+    uint8_t low; /* below one fifth */
+};
+
+static inline uint32_t snatchblock_low_first(const uint8_t *bytes, size_t length)
+{
+    uint32_t number = 0;
+    while (length > 0)
+        number = 256u * number + bytes[--length];
+    return number;
+}
+
+/* The same of rows in structs. A refusal gives figures of 0, no lowest: last week's aren't left to look like today's. */
+static inline uint32_t snatchblock_shelf_report_from(const struct snatchblock_row *rows, size_t count,
+                                                     struct snatchblock_figures *figures)
+{
+    uint8_t table[65 * 8] = {0}; /* one row more than is served, so that the library says so */
+    uint8_t room[SNATCHBLOCK_SHELF_ROOM] = {0};
+    size_t given = count < 65 ? count : 65;
+    for (size_t i = 0; i < given; i++) {
+        const uint16_t words[4] = {rows[i].remaining, rows[i].full, rows[i].design, rows[i].cycles};
+        for (size_t j = 0; j < 8; j++)
+            table[8 * i + j] = (uint8_t)(words[j / 2] >> 8 * (j % 2));
+    }
+    uint32_t result = snatchblock_shelf_report(table, 8 * given, room, sizeof room);
+    figures->packs = room[0];
+    figures->remaining = snatchblock_low_first(room + 1, 4);
+    figures->full = snatchblock_low_first(room + 5, 4);
+    figures->is_lowest = room[9] != 0;
+    figures->lowest_remaining = (uint16_t)snatchblock_low_first(room + 10, 2);
+    figures->lowest_full = (uint16_t)snatchblock_low_first(room + 12, 2);
+    figures->lowest_place = room[14];
+    figures->low = room[15];
+    return result;
+}
 
 #ifdef __cplusplus
 }

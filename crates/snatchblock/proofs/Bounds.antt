@@ -20,6 +20,7 @@ use Rattle.names.specs.Names.{unescaped, ofKey, nameIn, plainWrote}
 use Rattle.key_writer.specs.Writing.{refused, keyWrote}
 use Rattle.packed.proofs.Choice.{chosen}
 use Rattle.rooms.specs.declared.Wrote.{Wrote}
+use Rattle.shelf_table.specs.Table.{tableAnswer, tableWrote}
 use Rattle.pec.proofs.Loops.{apart-le}
 use Rattle.pec.specs.Messages.{bitsApart, bitComparison}
 use Rattle.pec.specs.declared.Compared.{Compared}
@@ -66,6 +67,10 @@ plain-most part room = go (unescaped part)
         chosen Small (leb (length name) 32)
         (λ l. chosen (λ (w : Wrote). w .length ≤ 32) (ltb (length room) (length name)) (λ h. omega arith) (λ h. leb-true (length name) 32 l))
         (λ l. omega arith)
+
+-- a shelf's figures
+pub figures-most : (table room : List ℕ) → tableWrote table room .length ≤ 16
+figures-most table room = chosen (λ (n : ℕ). n ≤ 16) (eqb (tableAnswer table room) 0) (λ e. omega arith) (λ e. omega arith)
 
 -- ---- captures
 

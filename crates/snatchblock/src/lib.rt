@@ -12,6 +12,7 @@ ghost use Rattle.pec.specs.Pec.{pecOf};
 ghost use Rattle.sheet.specs.Block.{locatedOf};
 ghost use Rattle.sheet.specs.Sheet.{isSheet};
 ghost use Rattle.sheet_writer.specs.Writing as sheets;
+ghost use Rattle.shelf_table.specs.Table.{tableWrote, tableRoom};
 ghost use Rattle.snatchblock.specs.Given.{sampleWith, setupWith};
 use key::Read;
 use pack::Sample;
@@ -136,6 +137,16 @@ pub extern "C" fn snatchblock_step_capture(bytes: &[u8], row: usize, place: usiz
     ensures { λ r. ⌜ r ≡ stepNumber place (stepAt (now (bytes .entry)) row place) ⌝ }
 {
     packed::stepped(place, capture::step_at(bytes, row, place))
+}
+
+// ---- the shelf
+
+#[no_mangle]
+pub extern "C" fn snatchblock_shelf_report(table: &[u8], room: &mut [u8]) -> u32
+    ensures { λ r. ⌜ r ≡ wroteNumber (tableWrote (now (table .entry)) (now (room .entry))) ⌝ }
+    ensures { λ _. ⌜ now (room .exit) ≡ tableRoom (now (table .entry)) (now (room .entry)) ⌝ }
+{
+    packed::wrote(shelf_table::write_report(table, room))
 }
 
 // ---- the pack

@@ -6,6 +6,7 @@ use mathlib.Core.Option.{Option, none, some}
 use mathlib.Core.Path.{refl}
 use Prim.Native.Nat.{ℕ}
 use native.Mathlib.Omega.{arith}
+use borrow.Author.Tests.{eqb-true}
 use lib.Dec.{eqb, ltb}
 use lib.ListN.{length}
 use Rattle.area.specs.Area.{stateIn, isArea, noState}
@@ -31,10 +32,12 @@ use Rattle.packed.proofs.Choice.{chosen}
 use Rattle.packed.specs.Packed.{packed, checkNumber, comparisonNumber, openedNumber, readNumber, locatedNumber, stepNumber}
 use Rattle.pec.specs.declared.Checked.{Checked}
 use Rattle.pec.specs.declared.Compared.{Compared}
+use Rattle.rooms.specs.Rooms.{wrote}
 use Rattle.sheet.specs.Block.{Part, ofService, ofFactory, goodSheets, partOf, locatedBy, locatedOf}
 use Rattle.sheet.specs.declared.Located.{Located}
 use Rattle.sheet_writer.specs.Writing.{writable, sheetWrote}
-use Rattle.snatchblock_laws.specs.Bare.{Bare, WroteBare, CheckBare, ComparisonBare, KeyBare, NameBare, ReadBare, SheetBare, BlockBare, OpenedBare, StepBare, SampleBare, TransactBare}
+use Rattle.shelf_table.specs.Table.{tableAnswer}
+use Rattle.snatchblock_laws.specs.Bare.{Bare, WroteBare, CheckBare, ComparisonBare, KeyBare, NameBare, ReadBare, SheetBare, BlockBare, OpenedBare, StepBare, ShelfBare, SampleBare, TransactBare}
 
 -- answer 0 is no refusal
 served-bare : {n : ℕ} → Bare 0 n
@@ -89,6 +92,11 @@ step-bare s row place = go (stepAt s row place)
     go (Next mark after next) h = absurd (true≢false h)
     go End h = absurd (true≢false h)
     go NotCapture h = refl
+
+pub shelf-bare : ShelfBare
+shelf-bare table room =
+    let n : ℕ = tableAnswer table room in
+    chosen (λ (bytes : ℕ). WroteBare (wrote n bytes)) (eqb n 0) (λ e. rw (eqb-true n 0 e) served-bare) (λ _ _. omega arith)
 
 -- ---- the pack
 

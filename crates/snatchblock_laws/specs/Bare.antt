@@ -18,6 +18,7 @@ use Rattle.rooms.specs.declared.Wrote.{Wrote}
 use Rattle.sheet.specs.Block.{locatedOf}
 use Rattle.sheet.specs.Sheet.{Entry}
 use Rattle.sheet_writer.specs.Writing.{sheetWrote}
+use Rattle.shelf_table.specs.Table.{tableWrote}
 
 -- where the answer is a refusal, the number is the answer
 abbrev pub Bare : ℕ → ℕ → Type 0
@@ -26,7 +27,7 @@ Bare answer number = served answer ≡ false → number ≡ answer
 abbrev pub WroteBare : Wrote → Type 0
 WroteBare w = Bare (w .answer) (wroteNumber w)
 
--- ---- messages, keys, sheets, captures
+-- ---- messages, keys, sheets, captures, the shelf
 
 abbrev pub CheckBare : Type 0
 CheckBare = (xs : List ℕ) → Bare (exchangeCheck xs .answer) (checkNumber (exchangeCheck xs))
@@ -54,6 +55,9 @@ OpenedBare = (s : List ℕ) → Bare (openedOf s .answer) (openedNumber (openedO
 
 abbrev pub StepBare : Type 0
 StepBare = (s : List ℕ) (row place : ℕ) → Bare (answerOf (stepAt s row place)) (stepNumber place (stepAt s row place))
+
+abbrev pub ShelfBare : Type 0
+ShelfBare = (table room : List ℕ) → WroteBare (tableWrote table room)
 
 -- ---- the pack (set-up's number is its answer)
 
