@@ -38,9 +38,12 @@ use Rattle.pack.specs.Sound.{soundOf}
 use Rattle.sheet.specs.Block.{Part, ofService, ofFactory, blockAnswer, goodSheets, partOf, locatedBy, locatedOf}
 use Rattle.sheet.specs.declared.Located.{Located}
 use Rattle.sheet_writer.specs.Writing.{sheetWrote, writable, short}
-use Rattle.answers.specs.Conditions.{commandOf, isReserved, isOptional, isReadOnly, isBlock, transactConditions, isNone, overflows}
+use Rattle.shelf.specs.Shelf.{anyBad, figures, reportAnswer, reportOf}
+use Rattle.shelf_row.specs.Rows.{zeros}
+use Rattle.shelf_row.specs.declared.Figures.{Figures}
+use Rattle.answers.specs.Conditions.{commandOf, isReserved, isOptional, isReadOnly, isBlock, transactConditions, isNone, overflows, tableConditions}
 use Rattle.answers.specs.Lowest.{_when_, lowest, allAbove, rising, firstHolding}
-use Rattle.answers.specs.Promises.{TransactLowest, SetUpLowest, SampleLowest, LoadLowest, StoreLowest, WriteKeyLowest, ReadKeyLowest, FindLowest, UnescapeLowest, BlockLowest, LocateLowest, WriteSheetLowest, OpenLowest, StepLowest, WriteCaptureLowest, ExchangeLowest, ComparisonLowest}
+use Rattle.answers.specs.Promises.{TransactLowest, SetUpLowest, SampleLowest, LoadLowest, StoreLowest, WriteKeyLowest, ReadKeyLowest, FindLowest, UnescapeLowest, BlockLowest, LocateLowest, WriteSheetLowest, OpenLowest, StepLowest, WriteCaptureLowest, ExchangeLowest, ComparisonLowest, ReportLowest, TableReportLowest}
 use Rattle.answers.proofs.Lowest.{first-is-lowest}
 
 -- ---- one condition
@@ -152,13 +155,13 @@ open-lowest bytes = answers {A = Opened} (λ r. r .answer) (isCapture bytes) _ _
 pub step-lowest : StepLowest
 step-lowest bytes row place = step-answer bytes row place ∙ one 14 (seenBad bytes row place)
 
--- the answer is given as it is
-as-it-is : (a written : ℕ) → cond (eqb a 0) (wrote 0 written) (wrote a 0) .answer ≡ a
-as-it-is a written = tested (eqb a 0) refl
+-- the answer is given as it is, served or refused
+as-it-is : {A : Type 0} (f : A → ℕ) (a : ℕ) (x y : A) → f x ≡ 0 → f y ≡ a → f (cond (eqb a 0) x y) ≡ a
+as-it-is f a x y p q = tested (eqb a 0) refl
   where
-    tested : (c : Bool) → eqb a 0 ≡ c → cond c (wrote 0 written) (wrote a 0) .answer ≡ a
-    tested true h = sym (eqb-true a 0 h)
-    tested false h = refl
+    tested : (c : Bool) → eqb a 0 ≡ c → f (cond c x y) ≡ a
+    tested true h = p ∙ sym (eqb-true a 0 h)
+    tested false h = q
 
 in-order : (a b : Bool) → _≡_ {A = ℕ} (cond a (cond b 0 14) 2) (cond (not a) 2 (cond (not b) 14 0))
 in-order true true = refl
@@ -169,7 +172,7 @@ pub write-capture-lowest : WriteCaptureLowest
 unfolding captureWrote rising allAbove
 write-capture-lowest marks sizes bodies room =
     let enough = leb (roomAsked marks sizes bodies) (length room) in
-    as-it-is (captureAnswer marks sizes bodies (length room)) (length (captureGiven marks sizes bodies))
+    as-it-is {A = Wrote} (λ r. r .answer) (captureAnswer marks sizes bodies (length room)) (wrote 0 (length (captureGiven marks sizes bodies))) _ refl refl
     ∙ in-order enough (givenFit marks sizes bodies)
     ∙ two 2 14 (not enough) (not (givenFit marks sizes bodies)) refl
     ∙ ap (λ c. lowest ((2 when c) ∷ (14 when not (givenFit marks sizes bodies)) ∷ [])) (not-at-least (roomAsked marks sizes bodies) (length room))
@@ -183,6 +186,18 @@ pub comparison-lowest : ComparisonLowest
 comparison-lowest xs ys =
     let c = not (eqb (length xs) (length ys)) || ltb 37 (length xs) in
     answers {A = Compared} (λ r. r .answer) c _ _ ∙ one 15 c
+
+-- ---- the shelf
+
+pub report-lowest : ReportLowest
+unfolding reportOf rising allAbove
+report-lowest rows =
+    as-it-is {A = Figures} (λ r. r .answer) (reportAnswer rows) (figures rows) (zeros (reportAnswer rows)) refl refl
+    ∙ two 16 17 (ltb 64 (length rows)) (anyBad rows) refl
+
+pub table-report-lowest : TableReportLowest
+unfolding rising allAbove firstHolding
+table-report-lowest table room = sym (first-is-lowest (tableConditions table room) refl)
 
 -- ---- transactions
 

@@ -1,4 +1,4 @@
--- The conditions of document 01's table for each public function, in the table's order. (1 of an area and 2 and 14 of a capture's writer are ours: docs/DECISIONS.md.)
+-- The conditions of document 01's table for each public function, in the table's order. (1 of an area, 2 and 14 of a capture's writer, and 2 and 4 of a shelf's table in bytes are ours: docs/DECISIONS.md.)
 -- Assumes nothing.
 use Prim.Native.Nat.{ℕ}
 use mathlib.Core.Bool.{Bool, true, false, _&&_, _||_, not}
@@ -22,6 +22,9 @@ use Rattle.pack.specs.declared.State.{State}
 use Rattle.sheet.specs.Block.{goodSheets}
 use Rattle.sheet.specs.Sheet.{Entry}
 use Rattle.sheet_writer.specs.Writing.{short}
+use Rattle.shelf.specs.Shelf.{anyBad}
+use Rattle.shelf.specs.declared.Row.{Row}
+use Rattle.shelf_table.specs.Table.{rowsIn, isRagged}
 use Rattle.answers.specs.Lowest.{Condition, _when_}
 
 -- ---- transactions
@@ -149,3 +152,13 @@ exchangeConditions bytes = (15 when (ltb (length bytes) 2 || ltb 37 (length byte
 -- 15: unequal lengths or over 37 (RULES 1.15)
 abbrev pub comparisonConditions : List ℕ → List ℕ → List Condition
 comparisonConditions xs ys = (15 when (not (eqb (length xs) (length ys)) || ltb 37 (length xs))) ∷ []
+
+-- ---- the shelf
+
+-- 16: more than 64 rows; 17: a row is bad (RULES 1.16, 1.17)
+abbrev pub reportConditions : List Row → List Condition
+reportConditions rows = (16 when ltb 64 (length rows)) ∷ (17 when anyBad rows) ∷ []
+
+-- 2: room under 16 bytes; 4: a table that isn't whole rows; 16 and 17 by its rows (RULES 1.2, 1.4)
+abbrev pub tableConditions : List ℕ → List ℕ → List Condition
+tableConditions table room = (2 when ltb (length room) 16) ∷ (4 when isRagged table) ∷ reportConditions (rowsIn table)

@@ -20,7 +20,10 @@ use Rattle.pec.specs.Messages.{exchangeCheck, bitComparison}
 use Rattle.sheet.specs.Block.{blockAnswer, locatedOf}
 use Rattle.sheet.specs.Sheet.{Entry}
 use Rattle.sheet_writer.specs.Writing.{sheetWrote}
-use Rattle.answers.specs.Conditions.{transactConditions, setUpConditions, sampleConditions, loadConditions, storeConditions, writeKeyConditions, readKeyConditions, unescapeConditions, blockConditions, writeSheetConditions, captureConditions, stepConditions, writeCaptureConditions, exchangeConditions, comparisonConditions}
+use Rattle.shelf.specs.Shelf.{reportOf}
+use Rattle.shelf.specs.declared.Row.{Row}
+use Rattle.shelf_table.specs.Table.{tableWrote}
+use Rattle.answers.specs.Conditions.{transactConditions, setUpConditions, sampleConditions, loadConditions, storeConditions, writeKeyConditions, readKeyConditions, unescapeConditions, blockConditions, writeSheetConditions, captureConditions, stepConditions, writeCaptureConditions, exchangeConditions, comparisonConditions, reportConditions, tableConditions}
 use Rattle.answers.specs.Lowest.{lowest}
 
 -- `transact`
@@ -83,3 +86,10 @@ ExchangeLowest = (bytes : List ℕ) → exchangeCheck bytes .answer ≡ lowest (
 
 abbrev pub ComparisonLowest : Type 0
 ComparisonLowest = (xs ys : List ℕ) → bitComparison xs ys .answer ≡ lowest (comparisonConditions xs ys)
+
+-- `report`, `write_report`
+abbrev pub ReportLowest : Type 0
+ReportLowest = (rows : List Row) → reportOf rows .answer ≡ lowest (reportConditions rows)
+
+abbrev pub TableReportLowest : Type 0
+TableReportLowest = (table room : List ℕ) → tableWrote table room .answer ≡ lowest (tableConditions table room)

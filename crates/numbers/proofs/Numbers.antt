@@ -32,14 +32,21 @@ number-back (suc n) v l at h e =
     let next : at + suc n ≡ suc at + n = omega arith in
     (omega (arith, f .0, b .0), ap (λ (k : ℕ). drop k l) next ∙ b .1)
 
+-- the numbers of a list are read back, and what follows their bytes is what followed
+pub numbers-then : (widths values l : List ℕ) (at : ℕ) {t : List ℕ} → Within widths values → drop at l ≡ numbersBytes widths values ++ t
+    → (numbersAt widths l at ≡ values) × (drop (at + bytesTaken widths) l ≡ t)
+numbers-then [] [] l at h e = (refl, ap (λ (k : ℕ). drop k l) (add-zero at) ∙ e)
+numbers-then [] (v ∷ values) l at h e = absurd h
+numbers-then (n ∷ widths) [] l at h e = absurd h
+numbers-then (n ∷ widths) (v ∷ values) l at {t} h e =
+    let b = number-back n v l at (h .0) (e ∙ append-assoc (numberBytes n v) (numbersBytes widths values) t) in
+    let more = numbers-then widths values l (at + n) (h .1) (b .1) in
+    let next : at + (n + bytesTaken widths) ≡ at + n + bytesTaken widths = omega arith in
+    (rw (b .0, more .0), ap (λ (k : ℕ). drop k l) next ∙ more .1)
+
+-- where nothing follows them
 pub numbers-back : (widths values l : List ℕ) (at : ℕ) → Within widths values → drop at l ≡ numbersBytes widths values → numbersAt widths l at ≡ values
-numbers-back [] [] l at h e = refl
-numbers-back [] (v ∷ values) l at h e = absurd h
-numbers-back (n ∷ widths) [] l at h e = absurd h
-numbers-back (n ∷ widths) (v ∷ values) l at h e =
-    let b = number-back n v l at (h .0) e in
-    let more : numbersAt widths l (at + n) ≡ values = numbers-back widths values l (at + n) (h .1) (b .1) in
-    rw (b .0, more)
+numbers-back widths values l at h e = numbers-then widths values l at h (e ∙ sym (append-nil (numbersBytes widths values))) .0
 
 -- ---- read, then stored
 
@@ -66,7 +73,7 @@ module _ (l : List ℕ) (b : Bytes l) where
       let here : drop at l ≡ x ∷ drop (suc at) l = drop-cons l at 0 (omega arith) in
       rw (low, high, next, more, here)
 
-  numbers-again : (widths : List ℕ) (at : ℕ) → at + bytesTaken widths ≤ length l → numbersBytes widths (numbersAt widths l at) ++ drop (at + bytesTaken widths) l ≡ drop at l
+  pub numbers-again : (widths : List ℕ) (at : ℕ) → at + bytesTaken widths ≤ length l → numbersBytes widths (numbersAt widths l at) ++ drop (at + bytesTaken widths) l ≡ drop at l
   numbers-again [] at h = ap (λ (k : ℕ). drop k l) (add-zero at)
   numbers-again (n ∷ widths) at h =
       let next : at + (n + bytesTaken widths) ≡ at + n + bytesTaken widths = omega arith in

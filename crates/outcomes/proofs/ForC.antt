@@ -2,7 +2,7 @@
 -- Assumes nothing.
 use mathlib.Core.Path.{refl}
 use Rattle.outcomes.specs.Outcome.{Settled}
-use Rattle.outcomes.specs.ForC.{snatchblockPecTerms, snatchblockExchangeCheckTerms, snatchblockBitComparisonTerms, snatchblockWriteKeyTerms, snatchblockReadKeyTerms, snatchblockUnescapeTerms, snatchblockWriteSheetTerms, snatchblockIsSheetTerms, snatchblockBlockTerms, snatchblockOpenCaptureTerms, snatchblockStepCaptureTerms, snatchblockSetUpTerms, snatchblockSoundTerms, snatchblockSampleTerms, snatchblockTransactTerms}
+use Rattle.outcomes.specs.ForC.{snatchblockPecTerms, snatchblockExchangeCheckTerms, snatchblockBitComparisonTerms, snatchblockWriteKeyTerms, snatchblockReadKeyTerms, snatchblockUnescapeTerms, snatchblockWriteSheetTerms, snatchblockIsSheetTerms, snatchblockBlockTerms, snatchblockOpenCaptureTerms, snatchblockStepCaptureTerms, snatchblockShelfReportTerms, snatchblockSetUpTerms, snatchblockSoundTerms, snatchblockSampleTerms, snatchblockTransactTerms}
 use Rattle.outcomes.proofs.One.{settled}
 use Rattle.snatchblock.proofs.snatchblock_pec as snatchblock-pec-owed
 use Rattle.snatchblock.proofs.snatchblock_exchange_check as snatchblock-exchange-check-owed
@@ -15,6 +15,7 @@ use Rattle.snatchblock.proofs.snatchblock_is_sheet as snatchblock-is-sheet-owed
 use Rattle.snatchblock.proofs.snatchblock_block as snatchblock-block-owed
 use Rattle.snatchblock.proofs.snatchblock_open_capture as snatchblock-open-capture-owed
 use Rattle.snatchblock.proofs.snatchblock_step_capture as snatchblock-step-capture-owed
+use Rattle.snatchblock.proofs.snatchblock_shelf_report as snatchblock-shelf-report-owed
 use Rattle.snatchblock.proofs.snatchblock_set_up as snatchblock-set-up-owed
 use Rattle.snatchblock.proofs.snatchblock_sound as snatchblock-sound-owed
 use Rattle.snatchblock.proofs.snatchblock_sample as snatchblock-sample-owed
@@ -52,6 +53,9 @@ snatchblock-open-capture-settled = settled snatchblockOpenCaptureTerms (λ M �
 
 pub snatchblock-step-capture-settled : Settled (λ M. snatchblock-step-capture-owed.clauses {M = M}) snatchblockStepCaptureTerms
 snatchblock-step-capture-settled = settled snatchblockStepCaptureTerms (λ M 𝓤 H A memory run. refl)
+
+pub snatchblock-shelf-report-settled : Settled (λ M. snatchblock-shelf-report-owed.clauses {M = M}) snatchblockShelfReportTerms
+snatchblock-shelf-report-settled = settled snatchblockShelfReportTerms (λ M 𝓤 H A memory run. refl)
 
 pub snatchblock-set-up-settled : Settled (λ M. snatchblock-set-up-owed.clauses {M = M}) snatchblockSetUpTerms
 snatchblock-set-up-settled = settled snatchblockSetUpTerms (λ M 𝓤 H A memory run. refl)

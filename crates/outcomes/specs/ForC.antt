@@ -14,6 +14,7 @@ use Rattle.pec.specs.Pec.{pecOf}
 use Rattle.sheet.specs.Block.{locatedOf}
 use Rattle.sheet.specs.Sheet.{isSheet}
 use Rattle.sheet_writer.specs.Writing as sheets
+use Rattle.shelf_table.specs.Table.{tableRoom, tableWrote}
 use Rattle.snatchblock.specs.Given.{sampleWith, setupWith}
 use denote.Ref.{now}
 use mathlib.Core.Bool.{Bool}
@@ -29,6 +30,7 @@ use Rattle.snatchblock.proofs.snatchblock_is_sheet as snatchblock-is-sheet-owed
 use Rattle.snatchblock.proofs.snatchblock_block as snatchblock-block-owed
 use Rattle.snatchblock.proofs.snatchblock_open_capture as snatchblock-open-capture-owed
 use Rattle.snatchblock.proofs.snatchblock_step_capture as snatchblock-step-capture-owed
+use Rattle.snatchblock.proofs.snatchblock_shelf_report as snatchblock-shelf-report-owed
 use Rattle.snatchblock.proofs.snatchblock_set_up as snatchblock-set-up-owed
 use Rattle.snatchblock.proofs.snatchblock_sound as snatchblock-sound-owed
 use Rattle.snatchblock.proofs.snatchblock_sample as snatchblock-sample-owed
@@ -110,6 +112,13 @@ snatchblockStepCaptureTerms = termsOf
     (ℕ ∷ [])
     (λ κs r _. (r, tt))
     (λ κs (bytes, (row, (place, _))). (stepNumber place (stepAt (now bytes) row place), tt))
+
+-- `snatchblock_shelf_report`
+abbrev pub snatchblockShelfReportTerms : Terms snatchblock-shelf-report-owed.ended
+snatchblockShelfReportTerms = termsOf
+    (ℕ ∷ List ℕ ∷ [])
+    (λ κs r (_, (room, _)). (r, (now room, tt)))
+    (λ κs (table, (room, _)). (wroteNumber (tableWrote (now table) (now room)), (tableRoom (now table) (now room), tt)))
 
 -- `snatchblock_set_up`
 abbrev pub snatchblockSetUpTerms : Terms snatchblock-set-up-owed.ended

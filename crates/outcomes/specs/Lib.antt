@@ -5,4 +5,5 @@ pub mod Sheets
 pub mod Captures
 pub mod Pack
 pub mod Area
+pub mod Shelf
 pub mod ForC

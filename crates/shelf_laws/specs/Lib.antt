@@ -1,0 +1,3 @@
+pub mod Promises
+pub mod Tables
+pub mod Examples

@@ -1,0 +1,1 @@
+// What holds of Monday's figures, by the definitions of `shelf` and `shelf_table`: no code, only laws.
