@@ -1,11 +1,12 @@
 # Two commands: `make demo` does the main job, `make test` is the whole gate.
-.PHONY: help demo play keys hut pec firmware test bench install uninstall clean
+.PHONY: help demo play keys hut shelf pec firmware test bench install uninstall clean
 
 help:
 	@echo 'make demo              plays captures/class.capture, a recorded visit to the bus'
 	@echo 'make play CAPTURE=file plays another capture'
 	@echo 'make keys              two packs that a dash makes one, and their two keys'
 	@echo 'make hut               five minutes of a pack in a hut, and what it broadcasts'
+	@echo "make shelf TABLE=file  Monday's figures of a table of packs; with no file, of examples/shelf/monday.txt"
 	@echo 'make pec BYTES="16 02" the check byte of a message; with no bytes, the worked examples'
 	@echo 'make firmware          a day of a C firmware over the proved library, and its plot'
 	@echo 'make test              the whole gate: every proof, every must-fail edit, every test'
@@ -23,6 +24,11 @@ keys: target/bin/key_demo
 
 hut: target/bin/hut
 	@tools/run target/bin/hut
+
+TABLE ?= examples/shelf/monday.txt
+
+shelf: target/bin/monday
+	@tools/run target/bin/monday <$(TABLE)
 
 pec: target/bin/pec_demo
 	@tools/run target/bin/pec_demo $(BYTES)
