@@ -21,6 +21,7 @@ static uint8_t letters[1024], strokes[64];
 static uint8_t sheet[145];
 static uint8_t capture[1 + 40 * 39];
 static uint8_t walked[1 + 255 * 39];
+static uint8_t shelf[SB2_SHELF_MOST * SB2_SHELF_ROW];
 static uint8_t key[139];
 static size_t sheet_length, capture_length, key_length, size;
 static uint32_t counter;
@@ -199,6 +200,41 @@ static void walk_c(void)
     sink = walk.place;
 }
 
+/* second/ compares each row with every other: beside the library stands one pass over the rows, in plain C */
+static uint32_t word(const uint8_t *at) { return (uint32_t)(at[0] | at[1] << 8); }
+static void put(uint8_t *at, uint32_t value) { memcpy(at, &value, sizeof value); } /* x86-64 is low byte first */
+static uint32_t one_pass(const uint8_t *table, size_t length, uint8_t *figures, size_t figures_length)
+{
+    uint32_t remaining = 0, full = 0, low = 0;
+    const uint8_t *lowest = table, *end = table + length;
+    if (figures_length < SB2_SHELF_ROOM)
+        return SB2_SMALL_ROOM;
+    if (length % SB2_SHELF_ROW != 0)
+        return SB2_WRONG_FORM;
+    if (length > SB2_SHELF_MOST * SB2_SHELF_ROW)
+        return SB2_TOO_MANY_ROWS;
+    for (const uint8_t *row = table; row < end; row += SB2_SHELF_ROW) {
+        uint32_t its = word(row), of = word(row + 2);
+        if (of == 0 || word(row + 4) == 0 || its > of)
+            return SB2_BAD_ROW;
+        remaining += its;
+        full += of;
+        low += 5 * its < of;
+        if (its * word(lowest + 2) < word(lowest) * of)
+            lowest = row;
+    }
+    figures[0] = (uint8_t)(length / SB2_SHELF_ROW);
+    put(figures + 1, remaining);
+    put(figures + 5, full);
+    figures[9] = length > 0;
+    put(figures + 10, length > 0 ? word(lowest) | word(lowest + 2) << 16 : 0);
+    figures[14] = (uint8_t)((lowest - table) / SB2_SHELF_ROW);
+    figures[15] = (uint8_t)low;
+    return SB2_SHELF_ROOM << 8;
+}
+static void shelf_p(void) { sink = snatchblock_shelf_report(shelf, size * SB2_SHELF_ROW, room, SB2_SHELF_ROOM); }
+static void shelf_c(void) { sink = one_pass(shelf, size * SB2_SHELF_ROW, room, SB2_SHELF_ROOM); }
+
 static void set_up_p(void)
 {
     sink = snatchblock_set_up(area, sizeof area, 4000, 4000, 2000, 14800, 2, 7, 0x526F, 17, 2000, 16800, 3182, 11000, 14800,
@@ -231,6 +267,7 @@ static const struct {
     {block_p, "snatchblock_block"},
     {open_p, "snatchblock_open_capture"},
     {step_p, "snatchblock_step_capture"},
+    {shelf_p, "snatchblock_shelf_report"},
 };
 
 /* Its name, or - where there is none: a case of more than one, too. */
@@ -313,6 +350,8 @@ static void make_entries(void)
     add("step-capture-40-rows", step_p, step_c, NULL);
     add_sized("walk-capture-rows", 51, walk_p, walk_c);
     add_sized("walk-capture-rows", 255, walk_p, walk_c);
+    add_sized("shelf-report-rows", 1, shelf_p, shelf_c);
+    add_sized("shelf-report-rows", 64, shelf_p, shelf_c);
 }
 
 /* A capture of rows of 37 bytes. */
@@ -362,6 +401,25 @@ static void prepare(const struct entry *e)
     message_length = reading ? 3 : 5;
 }
 
+/* Packs of 4,000 to 4,630 mAh at every charge; the one pass gives what the second program gives. */
+static void make_shelf(void)
+{
+    uint8_t figures[SB2_SHELF_ROOM];
+    size_t length;
+    for (uint32_t i = 0; i < 64; i++) {
+        put(shelf + SB2_SHELF_ROW * i, i * 1613 % 4000 | (4000 + 10 * i) << 16);
+        put(shelf + SB2_SHELF_ROW * i + 4, 4400 | i << 16);
+    }
+    for (size_t rows = 0; rows <= 64; rows++) {
+        int answer = sb2_shelf_report_bytes(of(shelf, rows * SB2_SHELF_ROW), figures, sizeof figures, &length);
+        if (one_pass(shelf, rows * SB2_SHELF_ROW, room, sizeof figures) != ((uint32_t)answer | (uint32_t)length << 8) ||
+            memcmp(figures, room, sizeof figures) != 0) {
+            fprintf(stderr, "entries: the one pass over the shelf is wrong\n");
+            exit(2);
+        }
+    }
+}
+
 static void make_data(void)
 {
     for (size_t i = 0; i < sizeof text; i++)
@@ -375,6 +433,7 @@ static void make_data(void)
     (void)sb2_key_write(of(text, 32), of(text + 64, 32), 0x526F, 17, key, sizeof key, &key_length);
     make_capture(capture, 40);
     capture_length = sizeof capture;
+    make_shelf();
 }
 
 /* ---- counting and stack */

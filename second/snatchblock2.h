@@ -1,9 +1,10 @@
 /* A second, separately written form of the battery pack's rules, in plain C11.
  *
- * It is written from document 01 and the Smart Battery Data Specification 1.1,
- * to be run beside the proved library and compared with it; README.md says which
- * few points it shares with that library. "Rule:" in a comment names the section
- * of document 01 that a function carries out.
+ * It is written from document 01, the requests of document 02 and the Smart
+ * Battery Data Specification 1.1, to be run beside the proved library and
+ * compared with it; README.md says which few points it shares with that library.
+ * "Rule:" in a comment names the section of document 01, or the request, that a
+ * function carries out.
  *
  * A pointer may be null where the length given with it is 0. Rooms are lent
  * memory: a refused call writes no byte of them, a served one only the front.
@@ -33,15 +34,20 @@ enum sb2_answer {
     SB2_CANNOT_WRITE = 12,
     SB2_NOT_A_KEY = 13,
     SB2_NOT_A_CAPTURE = 14,
-    SB2_OUT_OF_RANGE = 15
+    SB2_OUT_OF_RANGE = 15,
+    SB2_TOO_MANY_ROWS = 16,
+    SB2_BAD_ROW = 17
 };
 
-/* Sizes and times of document 01. */
+/* Sizes and times of document 01 and of the shelf. */
 enum {
     SB2_REPLY_ROOM = 34,
     SB2_BROADCAST_ROOM = 16,
     SB2_KEY_ROOM = 139,
     SB2_SHEET_ROOM = 145,
+    SB2_SHELF_ROOM = 16,
+    SB2_SHELF_ROW = 8,
+    SB2_SHELF_MOST = 64,
     SB2_NAME_MOST = 32,
     SB2_MESSAGE_MOST = 37,
     SB2_CAPTURE_MOST = 1 + 255 * 39,
@@ -301,5 +307,34 @@ int sb2_walk_test(const struct sb2_walk *walk);
 /* Takes the next row; false, and an empty row, when none is left, its step answers 14 or its body isn't there at the
  * walk's place (rule: Pack sheet and capture). */
 bool sb2_walk_next(struct sb2_walk *walk, struct sb2_row *row);
+
+/* ---- the shelf */
+
+/* One pack's words, mAh but for the cycles. */
+struct sb2_shelf_row {
+    uint16_t remaining;
+    uint16_t full;
+    uint16_t design;
+    uint16_t cycles;
+};
+
+/* What the store keeper asks of a table. */
+struct sb2_shelf {
+    size_t packs;
+    uint64_t remaining; /* total, mAh */
+    uint64_t full;      /* total, mAh */
+    bool is_lowest;     /* there is a lowest row; of no rows there is none */
+    uint16_t lowest_remaining;
+    uint16_t lowest_full;
+    size_t lowest_place; /* from 0, the first on a tie */
+    size_t low;          /* packs below one fifth */
+};
+
+/* Works the figures out: answers 0, 16 or 17, these two with figures of 0 (rule: R-1). */
+int sb2_shelf_report(const struct sb2_shelf_row *rows, size_t count, struct sb2_shelf *figures);
+
+/* The same of rows of eight bytes: answers 0 with sixteen bytes of figures in the room, 2, 4, 16 or 17 (rule: R-1; the
+ * bytes and answers 2 and 4 as include/snatchblock.h says). */
+int sb2_shelf_report_bytes(struct sb2_bytes table, uint8_t *room, size_t room_length, size_t *length);
 
 #endif

@@ -6,7 +6,7 @@
 
 #include <string.h>
 
-enum { REPLY_ROOM = 34, BROADCAST_ROOM = 16, KEY_ROOM = 139, SHEET_ROOM = 145 };
+enum { REPLY_ROOM = 34, BROADCAST_ROOM = 16, KEY_ROOM = 139, SHEET_ROOM = 145, SHELF_ROOM = 16 };
 enum { AREA_MOST = 2 * SNATCHBLOCK_AREA, ROOM_MOST = 200, GUARD = 24, MARK = 0xA5 };
 
 /* The answer number and what stands above it in a packed result. */
@@ -515,6 +515,7 @@ static void long_bytes_of(uint8_t byte, size_t length)
     CHECK(snatchblock_open_capture(bytes, length), 14);
     CHECK(snatchblock_exchange_check(bytes, length), 15);
     CHECK(snatchblock_sound(bytes, length), false);
+    CHECK(snatchblock_shelf_report(bytes, length, room, ROOM_MOST), length % 8 == 0 ? 16 : 4);
     CHECK(snatchblock_write_key(bytes, length, bytes, length, 0, 0, room, KEY_ROOM), 12);
     CHECK(room_is(NULL, 0), true);
 }
@@ -643,6 +644,179 @@ static void captures(void)
     CHECK(snatchblock_step_capture(longest, LONGEST + 1, 255, LONGEST), 14);
 }
 
+/* ---- the shelf */
+
+enum { ROW = 8, TABLE_MOST = 66 * ROW + 7 };
+static uint8_t table[TABLE_MOST], table_before[TABLE_MOST];
+
+/* The report over so many bytes of the table: an answer by its name, the figures or no byte of them, the table as it was. */
+static void reported_at(int line, size_t length, size_t room_length, enum snatchblock_answer answer, const uint8_t *figures)
+{
+    size_t written = answer == SNATCHBLOCK_SERVED ? SHELF_ROOM : 0;
+    memcpy(table_before, table, sizeof table);
+    new_room();
+    uint32_t result = snatchblock_shelf_report(table, length, room, room_length);
+    check_at(line, "answer", snatchblock_answer_of(result), answer);
+    check_at(line, "served", snatchblock_served(result), answer == SNATCHBLOCK_SERVED);
+    check_at(line, "length", snatchblock_length_of(result), written);
+    check_at(line, "room", room_is(figures, written), true);
+    check_at(line, "table", (unsigned)memcmp(table, table_before, sizeof table), 0);
+}
+#define REPORTED(length, room_length, answer, figures) reported_at(__LINE__, length, room_length, answer, figures)
+
+static void put_row(size_t place, struct snatchblock_row row)
+{
+    const uint16_t words[4] = {row.remaining, row.full, row.design, row.cycles};
+    for (size_t i = 0; i < 4; i++) {
+        table[ROW * place + 2 * i] = (uint8_t)(words[i] & 0xFF);
+        table[ROW * place + 2 * i + 1] = (uint8_t)(words[i] >> 8);
+    }
+}
+
+/* The report over rows in structs, last week's figures in its place. */
+static void structs_at(int line, const struct snatchblock_row *rows, size_t count, enum snatchblock_answer answer,
+                       struct snatchblock_figures wanted)
+{
+    struct snatchblock_figures got = {99, 99, 99, !wanted.is_lowest, 99, 99, 99, 99};
+    uint32_t result = snatchblock_shelf_report_from(rows, count, &got);
+    check_at(line, "answer", snatchblock_answer_of(result), answer);
+    check_at(line, "length", snatchblock_length_of(result), answer == SNATCHBLOCK_SERVED ? SHELF_ROOM : 0);
+    check_at(line, "packs", got.packs, wanted.packs);
+    check_at(line, "total remaining", got.remaining, wanted.remaining);
+    check_at(line, "total full", got.full, wanted.full);
+    check_at(line, "is lowest", got.is_lowest, wanted.is_lowest);
+    check_at(line, "lowest remaining", got.lowest_remaining, wanted.lowest_remaining);
+    check_at(line, "lowest full", got.lowest_full, wanted.lowest_full);
+    check_at(line, "lowest place", got.lowest_place, wanted.lowest_place);
+    check_at(line, "below one fifth", got.low, wanted.low);
+}
+
+/* Both reports over the same rows. */
+static void shelf_at(int line, const struct snatchblock_row *rows, size_t count, enum snatchblock_answer answer,
+                     struct snatchblock_figures f)
+{
+    const uint32_t numbers[8] = {f.packs, f.remaining, f.full, f.is_lowest, f.lowest_remaining, f.lowest_full, f.lowest_place, f.low};
+    static const size_t widths[8] = {1, 4, 4, 1, 2, 2, 1, 1};
+    uint8_t figures[SHELF_ROOM], *at = figures;
+    for (size_t i = 0; i < 8; i++)
+        for (size_t k = 0; k < widths[i]; k++)
+            *at++ = (uint8_t)(numbers[i] >> 8 * k);
+    for (size_t i = 0; i < count; i++)
+        put_row(i, rows[i]);
+    reported_at(line, ROW * count, SHELF_ROOM, answer, figures);
+    structs_at(line, rows, count, answer, f);
+}
+
+static const struct snatchblock_figures no_figures = {0, 0, 0, false, 0, 0, 0, 0};
+
+/* Packs, total remaining, total full, the lowest remaining, its full, its place, how many below one fifth; the rows. */
+#define SHELF(packs, remaining, full, lowest_remaining, lowest_full, place, low, ...)                                  \
+    shelf_at(__LINE__, (const struct snatchblock_row[]){__VA_ARGS__},                                                  \
+             sizeof((const struct snatchblock_row[]){__VA_ARGS__}) / sizeof(struct snatchblock_row), SNATCHBLOCK_SERVED, \
+             (struct snatchblock_figures){packs, remaining, full, true, lowest_remaining, lowest_full, place, low})
+
+/* Each byte where the header puts it, at every address, in every room. */
+static void shelf_layout(void)
+{
+    /* 513 of 1,027; then below one fifth 2,569 of 64,523, 529 of 65,043 and 25 of 547: 3,636 of 131,140 */
+    const uint8_t rows[] = {0x01, 0x02, 0x03, 0x04, 0x05, 0x06, 0x07, 0x08, 0x09, 0x0A, 0x0B, 0xFC, 0x0D, 0x0E, 0x0F, 0x10,
+                            0x11, 0x02, 0x13, 0xFE, 0x15, 0x16, 0x17, 0x18, 0x19, 0x00, 0x23, 0x02, 0x1D, 0x1E, 0x1F, 0x20};
+    const uint8_t figures[] = {4, 0x34, 0x0E, 0, 0, 0x44, 0x00, 0x02, 0, 1, 0x11, 0x02, 0x13, 0xFE, 2, 3};
+    const uint8_t none[SHELF_ROOM] = {0};
+    memcpy(table, rows, sizeof rows);
+    for (size_t length = 0; length <= ROOM_MOST; length++) {
+        REPORTED(sizeof rows, length, length < SHELF_ROOM ? SNATCHBLOCK_SMALL_ROOM : SNATCHBLOCK_SERVED, figures);
+        REPORTED(0, length, length < SHELF_ROOM ? SNATCHBLOCK_SMALL_ROOM : SNATCHBLOCK_SERVED, none);
+    }
+    for (size_t shift = 1; shift < ROW; shift++) {
+        memcpy(table + shift, rows, sizeof rows);
+        new_room();
+        CHECK(snatchblock_shelf_report(table + shift, sizeof rows, room + shift, SHELF_ROOM), PACKED(0, 16));
+        CHECK(memcmp(room + shift, figures, SHELF_ROOM), 0);
+    }
+    new_room();
+    CHECK(snatchblock_shelf_report(NO_BYTES, room, SHELF_ROOM), PACKED(0, 16));
+    CHECK(room_is(none, SHELF_ROOM), true);
+    CHECK(snatchblock_low_first(rows, 0), 0);
+    CHECK(snatchblock_low_first(rows, 1), 0x01);
+    CHECK(snatchblock_low_first(rows, 4), 0x04030201);
+}
+
+static void shelf_lowest(void)
+{
+    SHELF(1, 2000, 4000, 2000, 4000, 0, 0, {2000, 4000, 4400, 12});
+    /* two fifths three times: the first of them, in either order; then the same numbers twice */
+    SHELF(4, 1245, 3109, 40, 100, 1, 0, {3, 4, 9, 0}, {40, 100, 9, 0}, {2, 5, 9, 0}, {1200, 3000, 9, 0});
+    SHELF(4, 1245, 3109, 1200, 3000, 0, 0, {1200, 3000, 9, 0}, {2, 5, 9, 0}, {40, 100, 9, 0}, {3, 4, 9, 0});
+    SHELF(3, 16, 22, 7, 10, 1, 0, {2, 2, 9, 0}, {7, 10, 9, 0}, {7, 10, 9, 0});
+    /* remaining alone, and remaining by design, would choose another row */
+    SHELF(2, 1200, 4000, 900, 3600, 1, 0, {300, 400, 9, 0}, {900, 3600, 9, 0});
+    SHELF(2, 2000, 4100, 1000, 2100, 1, 0, {1000, 2000, 65535, 0}, {1000, 2100, 50, 0});
+    /* less than a percent apart; 65,533 x 65,535 is 1 less than 65,534 x 65,534 */
+    SHELF(2, 3662, 11000, 3329, 10000, 1, 0, {333, 1000, 9, 0}, {3329, 10000, 9, 0});
+    SHELF(2, 65535, 131069, 32767, 65534, 1, 0, {32768, 65535, 9, 0}, {32767, 65534, 9, 0});
+    SHELF(2, 131067, 131069, 65533, 65534, 1, 0, {65534, 65535, 9, 0}, {65533, 65534, 9, 0});
+    SHELF(2, 131067, 131069, 65533, 65534, 0, 0, {65533, 65534, 9, 0}, {65534, 65535, 9, 0});
+    SHELF(2, 65535, 131070, 0, 65535, 0, 1, {0, 65535, 65535, 65535}, {65535, 65535, 65535, 65535});
+    SHELF(3, 65535, 131071, 0, 65535, 1, 2, {65535, 65535, 9, 0}, {0, 65535, 9, 0}, {0, 1, 9, 0});
+    SHELF(3, 4, 196604, 1, 65535, 1, 3, {1, 65534, 9, 0}, {1, 65535, 9, 0}, {2, 65535, 9, 0});
+}
+
+static void shelf_fifths(void)
+{
+    SHELF(1, 19, 100, 19, 100, 0, 1, {19, 100, 9, 0});
+    SHELF(1, 20, 100, 20, 100, 0, 0, {20, 100, 9, 0});
+    SHELF(1, 21, 100, 21, 100, 0, 0, {21, 100, 9, 0});
+    SHELF(1, 1, 6, 1, 6, 0, 1, {1, 6, 9, 0});
+    SHELF(1, 13106, 65535, 13106, 65535, 0, 1, {13106, 65535, 9, 0});
+    SHELF(1, 13107, 65535, 13107, 65535, 0, 0, {13107, 65535, 9, 0});
+    SHELF(3, 300, 1500, 100, 501, 1, 1, {100, 500, 9, 0}, {100, 501, 9, 0}, {100, 499, 9, 0});
+    SHELF(4, 1640, 8194, 0, 1, 2, 2, {819, 4096, 9, 0}, {820, 4096, 9, 0}, {0, 1, 9, 0}, {1, 1, 9, 0});
+    SHELF(2, 40, 200, 10, 100, 1, 1, {30, 100, 10000, 0}, {10, 100, 1, 0}); /* of full, not of design */
+}
+
+/* Every length, its rows all bad, then all good: 2 before 4 before 16 before 17. */
+static void shelf_refusals(void)
+{
+    for (size_t length = 1; length <= TABLE_MOST; length++) {
+        enum snatchblock_answer rest = length > 64 * ROW ? SNATCHBLOCK_TOO_MANY_ROWS : SNATCHBLOCK_BAD_ROW;
+        memset(table, 0, sizeof table);
+        REPORTED(length, SHELF_ROOM - 1, SNATCHBLOCK_SMALL_ROOM, NULL);
+        REPORTED(length, SHELF_ROOM, length % ROW != 0 ? SNATCHBLOCK_WRONG_FORM : rest, NULL);
+        memset(table, 0xFF, sizeof table);
+        REPORTED(length, 0, SNATCHBLOCK_SMALL_ROOM, NULL);
+        if (length % ROW != 0 || length > 64 * ROW)
+            REPORTED(length, SHELF_ROOM, length % ROW != 0 ? SNATCHBLOCK_WRONG_FORM : SNATCHBLOCK_TOO_MANY_ROWS, NULL);
+    }
+}
+
+/* No rows, 64, 65 and 66; a row that is bad for each of three reasons at each place. */
+static void shelf_many(void)
+{
+    static const struct snatchblock_row bad[] = {{0, 0, 1, 0}, {0, 1, 0, 0}, {2, 1, 1, 0}};
+    struct snatchblock_row rows[66];
+    for (size_t i = 0; i < 66; i++)
+        rows[i] = (struct snatchblock_row){65535, 65535, 65535, 65535};
+    shelf_at(__LINE__, rows, 0, SNATCHBLOCK_SERVED, no_figures);
+    shelf_at(__LINE__, rows, 64, SNATCHBLOCK_SERVED, (struct snatchblock_figures){64, 4194240, 4194240, true, 65535, 65535, 0, 0});
+    shelf_at(__LINE__, rows, 65, SNATCHBLOCK_TOO_MANY_ROWS, no_figures);
+    shelf_at(__LINE__, rows, 66, SNATCHBLOCK_TOO_MANY_ROWS, no_figures);
+    for (size_t i = 0; i < 3 * 65; i++) {
+        struct snatchblock_row kept = rows[i / 3];
+        rows[i / 3] = bad[i % 3];
+        shelf_at(__LINE__, rows, 65, SNATCHBLOCK_TOO_MANY_ROWS, no_figures);
+        shelf_at(__LINE__, rows, i / 3 + 1, i / 3 < 64 ? SNATCHBLOCK_BAD_ROW : SNATCHBLOCK_TOO_MANY_ROWS, no_figures);
+        shelf_at(__LINE__, rows, 64, i / 3 < 64 ? SNATCHBLOCK_BAD_ROW : SNATCHBLOCK_SERVED,
+                 i / 3 < 64 ? no_figures : (struct snatchblock_figures){64, 4194240, 4194240, true, 65535, 65535, 0, 0});
+        rows[i / 3] = kept;
+    }
+    rows[63] = (struct snatchblock_row){0, 1, 1, 0};
+    shelf_at(__LINE__, rows, 64, SNATCHBLOCK_SERVED, (struct snatchblock_figures){64, 4128705, 4128706, true, 0, 1, 63, 1});
+    for (size_t i = 0; i < 64; i++)
+        rows[i] = (struct snatchblock_row){0, 65535, 1, 0};
+    shelf_at(__LINE__, rows, 64, SNATCHBLOCK_SERVED, (struct snatchblock_figures){64, 0, 4194240, true, 0, 65535, 0, 64});
+}
+
 /* ---- the header's own functions */
 
 /* The bits of a result from one to another, one at a time. */
@@ -700,16 +874,17 @@ static void accessors(void)
         access_wide(0x0123456789ABCD00u | i);
 }
 
-/* The names stand in the order of document 01's table. */
+/* The names stand in the order of document 01's table; 16 and 17 are request R-1's. */
 static void answer_names(void)
 {
     const enum snatchblock_answer names[] = {
         SNATCHBLOCK_SERVED, SNATCHBLOCK_NOT_SOUND, SNATCHBLOCK_SMALL_ROOM, SNATCHBLOCK_OTHER_ADDRESS,
         SNATCHBLOCK_WRONG_FORM, SNATCHBLOCK_WRONG_PEC, SNATCHBLOCK_RESERVED_COMMAND, SNATCHBLOCK_COMMAND_NOT_BUILT,
         SNATCHBLOCK_READ_ONLY, SNATCHBLOCK_BAD_SHEET, SNATCHBLOCK_SERVED_FFFF, SNATCHBLOCK_BAD_SET_UP,
-        SNATCHBLOCK_NO_FIT, SNATCHBLOCK_NOT_A_KEY, SNATCHBLOCK_NOT_A_CAPTURE, SNATCHBLOCK_WRONG_LENGTH};
-    CHECK(sizeof names / sizeof *names, 16);
-    for (unsigned i = 0; i < 16; i++)
+        SNATCHBLOCK_NO_FIT, SNATCHBLOCK_NOT_A_KEY, SNATCHBLOCK_NOT_A_CAPTURE, SNATCHBLOCK_WRONG_LENGTH,
+        SNATCHBLOCK_TOO_MANY_ROWS, SNATCHBLOCK_BAD_ROW};
+    CHECK(sizeof names / sizeof *names, 18);
+    for (unsigned i = 0; i < 18; i++)
         CHECK(names[i], i);
     CHECK(SNATCHBLOCK_VERSION, 1);
 }
@@ -760,6 +935,7 @@ int main(void)
     CHECK(SNATCHBLOCK_BROADCAST_ROOM, BROADCAST_ROOM);
     CHECK(SNATCHBLOCK_KEY_ROOM, KEY_ROOM);
     CHECK(SNATCHBLOCK_SHEET_ROOM, SHEET_ROOM);
+    CHECK(SNATCHBLOCK_SHELF_ROOM, SHELF_ROOM);
     answer_names();
     accessors();
     wrappers();
@@ -783,5 +959,10 @@ int main(void)
     blocks();
     bad_sheets();
     captures();
+    shelf_layout();
+    shelf_lowest();
+    shelf_fifths();
+    shelf_refusals();
+    shelf_many();
     return checked("c");
 }

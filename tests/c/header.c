@@ -71,9 +71,27 @@ static bool captures_answer(void)
            snatchblock_step_length(step) == 3 && snatchblock_step_next(step) == sizeof capture;
 }
 
+/* 1,000 of 4,000 mAh, then 700: the second is lower, and below one fifth. */
+static bool shelf_answers(void)
+{
+    const struct snatchblock_row rows[2] = {{1000, 4000, 4400, 12}, {700, 4000, 4400, 0}};
+    const uint8_t table[8] = {0xE8, 0x03, 0xA0, 0x0F, 0x30, 0x11, 0x0C, 0x00};
+    struct snatchblock_figures figures;
+    uint32_t result = snatchblock_shelf_report(table, sizeof table, room, SNATCHBLOCK_SHELF_ROOM);
+    if (snatchblock_length_of(result) != SNATCHBLOCK_SHELF_ROOM || snatchblock_low_first(room + 1, 4) != 1000)
+        return false;
+    result = snatchblock_shelf_report_from(rows, 0, &figures);
+    if (!snatchblock_served(result) || figures.packs != 0 || figures.is_lowest)
+        return false;
+    result = snatchblock_shelf_report_from(rows, 2, &figures);
+    return snatchblock_served(result) && figures.packs == 2 && figures.remaining == 1700 && figures.full == 8000 &&
+           figures.is_lowest && figures.lowest_remaining == 700 && figures.lowest_full == 4000 &&
+           figures.lowest_place == 1 && figures.low == 1;
+}
+
 int main(void)
 {
-    if (pack_answers() && messages_answer() && keys_answer() && sheets_answer() && captures_answer())
+    if (pack_answers() && messages_answer() && keys_answer() && sheets_answer() && captures_answer() && shelf_answers())
         return 0;
     printf("header: an answer is wrong\n");
     return 1;

@@ -256,10 +256,10 @@ static void compare(uint64_t proved, uint64_t second)
 
 /* ---- classes */
 
-enum { ANSWERS = 16 };
+enum { ANSWERS = 18 };
 enum entry {
     SET_UP, SOUND, SAMPLE, TRANSACT, PEC, EXCHANGE, BITS, WRITE_KEY, READ_KEY, UNESCAPE, WRITE_SHEET, IS_SHEET, BLOCK,
-    OPEN, STEP, ENTRIES
+    OPEN, STEP, SHELF, SHELF_FROM, ENTRIES
 };
 static const struct {
     const char *name;
@@ -280,6 +280,8 @@ static const struct {
     [BLOCK] = {"block", 1u << 0 | 1u << 9},
     [OPEN] = {"open_capture", 1u << 0 | 1u << 14},
     [STEP] = {"step_capture", 1u << 0 | 1u << 14},
+    [SHELF] = {"shelf_report", 1u << 0 | 1u << 2 | 1u << 4 | 1u << 16 | 1u << 17},
+    [SHELF_FROM] = {"shelf_report_from", 1u << 0 | 1u << 16 | 1u << 17},
 };
 static uint64_t came[ENTRIES][ANSWERS];
 
@@ -290,13 +292,17 @@ enum other {
     BIT_4_WAS_CLEAR = STATUS_CLEAR + 16, BIT_4_WAS_SET = BIT_4_WAS_CLEAR + 3, MESSAGES_0 = BIT_4_WAS_SET + 3, MESSAGES_1,
     MESSAGES_2, MESSAGES_3, MESSAGES_4, ALARM_BIT, COUNTER_WRAPPED = ALARM_BIT + 16, HOLD_RAN_OUT, EXCHANGE_RIGHT,
     EXCHANGE_WRONG, BLOCK_SERVICE, BLOCK_FACTORY, BLOCK_NEITHER, STEP_ROW, STEP_ROW_OF_OTHERS, STEP_PAST_LAST,
-    STEP_IN_TABLE, STEP_PAST_END, STEP_AT_0, STEP_CUT_TABLE, STEP_TOO_LONG, STEP_MISFIT, OTHERS
+    STEP_IN_TABLE, STEP_PAST_END, STEP_AT_0, STEP_CUT_TABLE, STEP_TOO_LONG, STEP_MISFIT, SHELF_OF,
+    SHELF_OF_MORE = SHELF_OF + 65, SHELF_LOWEST = SHELF_OF_MORE + 3, SHELF_TIE = SHELF_LOWEST + 64,
+    SHELF_NEAR = SHELF_TIE + 2, SHELF_FIFTH = SHELF_NEAR + 3, SHELF_EDGE = SHELF_FIFTH + 5,
+    SHELF_BAD_ROW = SHELF_EDGE + 4, SHELF_BAD_TWICE = SHELF_BAD_ROW + 3 * 64, SHELF_RAGGED = SHELF_BAD_TWICE + 2,
+    SHELF_ROOM = SHELF_RAGGED + 7, SHELF_ORDER = SHELF_ROOM + 21, OTHERS = SHELF_ORDER + 6
 };
 static uint64_t other[OTHERS];
 
 static void came_up(enum entry entry, uint64_t result)
 {
-    came[entry][result & 15]++;
+    came[entry][result & 0xFF]++;
 }
 
 /* ---- what is played */
@@ -1027,17 +1033,270 @@ static void play_captures(void)
         (void)play_step(capture, some_row(), some_place(capture));
 }
 
+/* ---- the shelf */
+
+enum { SHELF_MOST = 2000 };
+static struct sb2_shelf_row shelf[SHELF_MOST];
+static size_t shelf_rows;
+
+static size_t some_count(void)
+{
+    static const uint32_t edges[] = {0, 1, 2, 3, 63, 64, 65, 66};
+    if (one_in(100))
+        return 67 + below(SHELF_MOST - 66);
+    return one_in(2) ? edges[below(sizeof edges / sizeof *edges)] : below(67);
+}
+
+/* What a row is built for. */
+enum rows { ANY, MULTIPLES, NEAR, FIFTHS, EDGES, ROW_KINDS };
+
+/* Puts a row's remaining and full; a and b are the table's pair, which its multiples and neighbours stand around. */
+static void some_ratio(enum rows kind, uint32_t a, uint32_t b, struct sb2_shelf_row *row)
+{
+    static const uint16_t edges[] = {1, 2, 65534, 65535};
+    uint32_t full = 1 + below(one_in(2) ? 65535 : 6000), remaining = below(full + 1), k;
+    switch (kind) {
+    case MULTIPLES: k = 1 + below(65535 / b), remaining = a * k, full = b * k; break;
+    case NEAR: k = below(b < 65533 ? 3 : 1), remaining = a + k, full = b + k; break;
+    case FIFTHS: /* one off in full, or in remaining */
+        remaining = 1 + below(13106), full = 5 * remaining;
+        if (one_in(2))
+            full = full - 1 + below(3);
+        else
+            remaining = remaining - 1 + below(3);
+        break;
+    case EDGES:
+        full = edges[below(4)];
+        remaining = one_in(2) ? below(2) : full - below(2);
+        break;
+    default: break;
+    }
+    row->remaining = (uint16_t)remaining;
+    row->full = (uint16_t)full;
+}
+
+/* A table without a bad row, its rows built for one thing, at times with any others between. */
+static void some_shelf(enum rows kind, size_t count)
+{
+    bool mixed = one_in(2);
+    uint32_t b = 1 + below(one_in(2) ? 65535 : 300);
+    uint32_t a = kind == NEAR && one_in(2) ? b - 1 : below((one_in(2) ? b : b / 50) + 1);
+    shelf_rows = count;
+    for (size_t i = 0; i < shelf_rows; i++) {
+        some_ratio(mixed && one_in(4) ? ANY : kind, a, b, &shelf[i]);
+        shelf[i].design = (uint16_t)(one_in(8) ? 1 : 1 + below(65535));
+        shelf[i].cycles = some_word();
+    }
+}
+
+/* Makes a row bad: full 0, design 0, remaining above full; the first at times for the third reason too. */
+static void spoil(struct sb2_shelf_row *row, unsigned reason)
+{
+    switch (reason) {
+    case 0: row->full = 0, row->remaining = one_in(4) ? some_word() : 0; break;
+    case 1: row->design = 0; break;
+    default:
+        row->full = (uint16_t)(1 + below(65534));
+        row->remaining = (uint16_t)(row->full + 1 + (one_in(2) ? 0 : below(65535u - row->full)));
+        break;
+    }
+}
+
+static unsigned reasons(const struct sb2_shelf_row *row)
+{
+    return (row->full == 0) | (row->design == 0) << 1 | (row->remaining > row->full) << 2;
+}
+
+/* How many rows are bad, and the last of them with its reasons. */
+static size_t bad_rows(size_t *place, unsigned *why)
+{
+    size_t bad = 0;
+    for (size_t i = 0; i < shelf_rows; i++)
+        if (reasons(&shelf[i])) {
+            *place = i;
+            *why = reasons(&shelf[i]);
+            bad++;
+        }
+    return bad;
+}
+
+/* Which row was refused, and why. */
+static void note_bad_row(void)
+{
+    size_t place = 0;
+    unsigned why = 0;
+    if (bad_rows(&place, &why) > 1)
+        other[SHELF_BAD_TWICE + 1]++;
+    else if (why == 1 || why == 2 || why == 4)
+        other[SHELF_BAD_ROW + 3 * place + why / 2]++;
+    else
+        other[SHELF_BAD_TWICE]++;
+}
+
+/* A served row beside the lowest: ties, one product apart, and where remaining or whole percent would mislead. */
+static void note_beside(const struct sb2_shelf_row *row, const struct sb2_shelf_row *lowest)
+{
+    uint64_t its = (uint64_t)row->remaining * lowest->full, least = (uint64_t)lowest->remaining * row->full;
+    if (row != lowest && its == least)
+        other[SHELF_TIE + (row->full != lowest->full)]++;
+    if (its == least + 1)
+        other[SHELF_NEAR]++;
+    if (row->remaining < lowest->remaining)
+        other[SHELF_NEAR + 1]++;
+    if (its > least && row < lowest && 100u * row->remaining / row->full == 100u * lowest->remaining / lowest->full)
+        other[SHELF_NEAR + 2]++;
+}
+
+/* A served row by itself: about one fifth, and at the edges. */
+static void note_row(const struct sb2_shelf_row *row)
+{
+    static const int32_t apart[5] = {-5, -1, 0, 1, 5};
+    static const uint16_t edges[4][2] = {{0, 65535}, {65535, 65535}, {0, 1}, {1, 1}};
+    for (size_t i = 0; i < 5; i++)
+        if (5 * row->remaining - row->full == apart[i])
+            other[SHELF_FIFTH + i]++;
+    for (size_t i = 0; i < 4; i++)
+        if (row->remaining == edges[i][0] && row->full == edges[i][1])
+            other[SHELF_EDGE + i]++;
+}
+
+static void note_served_shelf(size_t lowest)
+{
+    other[SHELF_OF + shelf_rows]++;
+    if (shelf_rows > 0)
+        other[SHELF_LOWEST + lowest]++;
+    for (size_t i = 0; i < shelf_rows; i++) {
+        note_beside(&shelf[i], &shelf[lowest]);
+        note_row(&shelf[i]);
+    }
+}
+
+/* The rooms and lengths, and each two conditions that held at once. */
+static void note_shelf(size_t ragged)
+{
+    size_t place;
+    unsigned why;
+    const bool holds[4] = {room.length < SB2_SHELF_ROOM, ragged > 0, shelf_rows > SB2_SHELF_MOST, bad_rows(&place, &why) > 0};
+    if (room.length <= 20)
+        other[SHELF_ROOM + room.length]++;
+    if (ragged > 0)
+        other[SHELF_RAGGED + ragged - 1]++;
+    for (size_t i = 0, both = 0; i < 4; i++)
+        for (size_t j = i + 1; j < 4; j++, both++)
+            if (holds[i] && holds[j])
+                other[SHELF_ORDER + both]++;
+}
+
+/* The table in bytes, with some of a row more. */
+static void play_shelf_bytes(size_t ragged, size_t room_length)
+{
+    static uint8_t bytes[SHELF_MOST * SB2_SHELF_ROW + 7];
+    uint8_t *at = bytes;
+    for (size_t i = 0; i < shelf_rows; i++) {
+        const uint16_t words[4] = {shelf[i].remaining, shelf[i].full, shelf[i].design, shelf[i].cycles};
+        for (size_t j = 0; j < 4; j++, at += 2) {
+            at[0] = (uint8_t)(words[j] & 0xFF);
+            at[1] = (uint8_t)(words[j] >> 8);
+        }
+    }
+    fill(at, ragged);
+    struct sb2_bytes table = lend(0, bytes, SB2_SHELF_ROW * shelf_rows + ragged);
+    lend_room(room_length);
+    size_t length;
+    begin("shelf_report", 1, NO_AREA, true);
+    uint32_t proved = snatchblock_shelf_report(table.at, table.length, room.p, room.length);
+    int answer = sb2_shelf_report_bytes(table, room.s, room.length, &length);
+    compare(proved, (uint32_t)answer | (uint32_t)length << 8);
+    came_up(SHELF, (uint32_t)answer);
+    note_shelf(ragged);
+    if (answer == SB2_SERVED)
+        note_served_shelf(room.s[14]);
+    else if (answer == SB2_TOO_MANY_ROWS)
+        other[SHELF_OF_MORE + (shelf_rows > 66 ? 2 : shelf_rows - 65)]++;
+    else if (answer == SB2_BAD_ROW)
+        note_bad_row();
+}
+
+/* The figures in structs, one by one; the number noted is which of them. */
+static void compare_figures(const struct snatchblock_figures *p, const struct sb2_shelf *s)
+{
+    const uint64_t figures[][2] = {
+        {p->packs, s->packs}, {p->remaining, s->remaining}, {p->full, s->full}, {p->is_lowest, s->is_lowest},
+        {p->lowest_remaining, s->lowest_remaining}, {p->lowest_full, s->lowest_full},
+        {p->lowest_place, s->lowest_place}, {p->low, s->low}};
+    for (size_t i = 0; i < sizeof figures / sizeof *figures; i++) {
+        call.numbers = 0;
+        note(i);
+        compare(figures[i][0], figures[i][1]);
+    }
+}
+
+/* The table in structs: the header's, lent for reading, beside the second program's. */
+static void play_shelf_structs(void)
+{
+    static struct snatchblock_row rows[SHELF_MOST];
+    for (size_t i = 0; i < shelf_rows; i++)
+        rows[i] = (struct snatchblock_row){.remaining = shelf[i].remaining, .full = shelf[i].full,
+                                           .design = shelf[i].design, .cycles = shelf[i].cycles};
+    const void *table = lend(0, (const uint8_t *)rows, shelf_rows * sizeof *rows).at;
+    struct snatchblock_figures ours;
+    struct sb2_shelf theirs;
+    memset(&ours, (int)below(2), sizeof ours); /* every bool is 0 or 1 */
+    begin("shelf_report_from", 1, NO_AREA, false);
+    uint32_t proved = snatchblock_shelf_report_from(table, shelf_rows, &ours);
+    uint32_t second = (uint32_t)sb2_shelf_report(shelf, shelf_rows, &theirs);
+    compare(proved, second == SB2_SERVED ? SB2_SHELF_ROOM << 8 : second);
+    compare_figures(&ours, &theirs);
+    came_up(SHELF_FROM, second);
+}
+
+/* 64 rows: each in its turn the lowest, and bad for each reason. */
+static void play_each_place(void)
+{
+    some_shelf(ANY, SB2_SHELF_MOST);
+    for (size_t i = 0; i < shelf_rows; i++) {
+        struct sb2_shelf_row kept = shelf[i];
+        shelf[i].remaining = 0;
+        play_shelf_bytes(0, SB2_SHELF_ROOM);
+        for (unsigned reason = 0; reason < 3; reason++) {
+            shelf[i] = kept;
+            spoil(&shelf[i], reason);
+            play_shelf_bytes(0, SB2_SHELF_ROOM);
+        }
+        shelf[i] = kept;
+    }
+}
+
+static void play_shelf(void)
+{
+    some_shelf((enum rows)below(ROW_KINDS), some_count());
+    play_shelf_bytes(0, SB2_SHELF_ROOM + (one_in(4) ? below(ROOM_MOST) : 0));
+    play_shelf_bytes(below(8), below(21));
+    play_shelf_structs();
+    if (shelf_rows > 0)
+        for (uint32_t times = one_in(8) ? 2 : 1; times > 0; times--)
+            spoil(&shelf[below((uint32_t)shelf_rows)], below(3));
+    play_shelf_bytes(0, SB2_SHELF_ROOM);
+    play_shelf_bytes(below(8), below(21));
+    play_shelf_structs();
+}
+
 /* ---- all of it */
 
 static void play(void)
 {
-    switch (below(10)) {
+    switch (below(11)) {
     case 0: case 1: case 2: play_life(); break;
     case 3: case 4: play_areas(); break;
     case 5: for (int i = 0; i < 20; i++) play_checks(); break;
     case 6: case 7: for (int i = 0; i < 10; i++) play_keys(); break;
     case 8: for (int i = 0; i < 20; i++) play_sheets(); break;
-    default: for (int i = 0; i < 20; i++) play_captures(); break;
+    case 9: for (int i = 0; i < 20; i++) play_captures(); break;
+    default:
+        if (one_in(4))
+            play_each_place();
+        for (int i = 0; i < 20; i++) play_shelf();
+        break;
     }
 }
 
@@ -1119,6 +1378,18 @@ static bool tally(void)
         {"steps to a row, of a capture and of other bytes", STEP_ROW, STEP_ROW_OF_OTHERS},
         {"past the last row, in the table, past the end", STEP_PAST_LAST, STEP_PAST_END},
         {"14: at 0, cut table, too long, a row that misfits", STEP_AT_0, STEP_MISFIT},
+        {"shelves of 0 to 64 rows", SHELF_OF, SHELF_OF + 64},
+        {"16: of 65, of 66, of more", SHELF_OF_MORE, SHELF_OF_MORE + 2},
+        {"the lowest row at 0 to 63", SHELF_LOWEST, SHELF_LOWEST + 63},
+        {"rows that tie with it, of one full and of another", SHELF_TIE, SHELF_TIE + 1},
+        {"rows that are nearest; less remaining; one percent", SHELF_NEAR, SHELF_NEAR + 2},
+        {"5 x remaining is full - 5, - 1, + 0, + 1, + 5", SHELF_FIFTH, SHELF_FIFTH + 4},
+        {"rows of 0/65,535, 65,535/65,535, 0/1, 1/1", SHELF_EDGE, SHELF_EDGE + 3},
+        {"17: one bad row, each reason at 0 to 63", SHELF_BAD_ROW, SHELF_BAD_ROW + 3 * 64 - 1},
+        {"17: a row of two reasons, two rows", SHELF_BAD_TWICE, SHELF_BAD_TWICE + 1},
+        {"1 to 7 bytes behind the rows", SHELF_RAGGED, SHELF_RAGGED + 6},
+        {"rooms of 0 to 20 bytes", SHELF_ROOM, SHELF_ROOM + 20},
+        {"each two of 2, 4, 16 and 17 at once", SHELF_ORDER, SHELF_ORDER + 5},
     };
     for (size_t i = 0; i < sizeof lines / sizeof *lines; i++)
         all = count_other(lines[i].name, lines[i].first, lines[i].last) && all;

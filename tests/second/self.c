@@ -1,6 +1,7 @@
 /* Holds the second program to published facts: document 01's worked examples
  * and tables, both packets of source document 001, the check word of CRC-8 and
- * the values that 002 works out. Then to properties that document 01 states. */
+ * the values that 002 works out. Then to properties that document 01 states, and
+ * to tables worked by hand from the words of request R-1. */
 #include "../../second/snatchblock2.h"
 
 #include <stdio.h>
@@ -1070,6 +1071,147 @@ static void areas(void)
     CHECK(memcmp(area, again, SB2_AREA), 0);
 }
 
+/* ---- request R-1 */
+
+static void shelf_at(int line, const struct sb2_shelf_row *rows, size_t count, int answer, struct sb2_shelf wanted)
+{
+    struct sb2_shelf got = {9, 9, 9, true, 9, 9, 9, 9};
+    check_at(line, "answer", sb2_shelf_report(rows, count, &got), answer);
+    check_at(line, "packs", (long long)got.packs, (long long)wanted.packs);
+    check_at(line, "total remaining", (long long)got.remaining, (long long)wanted.remaining);
+    check_at(line, "total full", (long long)got.full, (long long)wanted.full);
+    check_at(line, "is lowest", got.is_lowest, wanted.is_lowest);
+    check_at(line, "lowest remaining", got.lowest_remaining, wanted.lowest_remaining);
+    check_at(line, "lowest full", got.lowest_full, wanted.lowest_full);
+    check_at(line, "lowest place", (long long)got.lowest_place, (long long)wanted.lowest_place);
+    check_at(line, "below one fifth", (long long)got.low, (long long)wanted.low);
+}
+
+static const struct sb2_shelf no_figures = {0, 0, 0, false, 0, 0, 0, 0};
+
+/* Packs, total remaining, total full, the lowest remaining, its full, its place, how many below one fifth; the rows. */
+#define SHELF(packs, remaining, full, lowest_remaining, lowest_full, place, low, ...)                                  \
+    shelf_at(__LINE__, (const struct sb2_shelf_row[]){__VA_ARGS__},                                                    \
+             sizeof((const struct sb2_shelf_row[]){__VA_ARGS__}) / sizeof(struct sb2_shelf_row), 0,                    \
+             (struct sb2_shelf){packs, remaining, full, true, lowest_remaining, lowest_full, place, low})
+
+static void shelf_lowest(void)
+{
+    SHELF(1, 2000, 4000, 2000, 4000, 0, 0, {2000, 4000, 4000, 7});
+    /* a half three times: the first of them, in either order; then a quarter in the same numbers twice */
+    SHELF(4, 3401, 6002, 500, 1000, 1, 0, {900, 1000, 1, 0}, {500, 1000, 1, 0}, {1, 2, 1, 0}, {2000, 4000, 1, 0});
+    SHELF(4, 3401, 6002, 2000, 4000, 0, 0, {2000, 4000, 1, 0}, {1, 2, 1, 0}, {500, 1000, 1, 0}, {900, 1000, 1, 0});
+    SHELF(4, 8, 16, 1, 4, 1, 0, {3, 4, 1, 0}, {1, 4, 1, 0}, {3, 4, 1, 0}, {1, 4, 1, 0});
+    /* remaining alone, full minus remaining, remaining by design and cycles would each choose another row */
+    SHELF(2, 1100, 4100, 1000, 4000, 1, 0, {100, 100, 1, 0}, {1000, 4000, 1, 0});
+    SHELF(2, 3010, 4040, 10, 40, 1, 0, {3000, 4000, 1, 0}, {10, 40, 1, 0});
+    SHELF(2, 4000, 7900, 2000, 4000, 1, 0, {2000, 3900, 65535, 0}, {2000, 4000, 100, 65535});
+    /* less than a percent apart, and as near as two rows can be: 65,533 x 65,535 is 1 less than 65,534 x 65,534 */
+    SHELF(2, 1502, 3000, 1001, 2000, 1, 0, {501, 1000, 1, 0}, {1001, 2000, 1, 0});
+    SHELF(2, 65533, 131067, 32766, 65533, 1, 0, {32767, 65534, 1, 0}, {32766, 65533, 1, 0});
+    SHELF(2, 131067, 131069, 65533, 65534, 1, 0, {65534, 65535, 1, 0}, {65533, 65534, 1, 0});
+    SHELF(2, 131067, 131069, 65533, 65534, 0, 0, {65533, 65534, 1, 0}, {65534, 65535, 1, 0});
+    SHELF(2, 65535, 131070, 0, 65535, 0, 1, {0, 65535, 1, 0}, {65535, 65535, 1, 0});
+    SHELF(3, 65535, 131071, 0, 65535, 1, 2, {65535, 65535, 1, 0}, {0, 65535, 1, 0}, {0, 1, 1, 0});
+    SHELF(2, 65536, 65536, 65535, 65535, 0, 0, {65535, 65535, 1, 0}, {1, 1, 1, 0});
+    SHELF(2, 65536, 131070, 1, 65535, 1, 1, {65535, 65535, 1, 0}, {1, 65535, 1, 0});
+}
+
+static void shelf_fifths(void)
+{
+    SHELF(1, 200, 1000, 200, 1000, 0, 0, {200, 1000, 1, 0});
+    SHELF(1, 199, 1000, 199, 1000, 0, 1, {199, 1000, 1, 0});
+    SHELF(1, 201, 1000, 201, 1000, 0, 0, {201, 1000, 1, 0});
+    SHELF(1, 13107, 65535, 13107, 65535, 0, 0, {13107, 65535, 1, 0});
+    SHELF(1, 13106, 65535, 13106, 65535, 0, 1, {13106, 65535, 1, 0});
+    SHELF(1, 1, 4, 1, 4, 0, 0, {1, 4, 1, 0});
+    SHELF(1, 1, 5, 1, 5, 0, 0, {1, 5, 1, 0});
+    SHELF(1, 1, 6, 1, 6, 0, 1, {1, 6, 1, 0});
+    SHELF(1, 0, 1, 0, 1, 0, 1, {0, 1, 1, 0});
+    /* of full, whatever the design: 3 of 10 of 65,535, and 1 of 10 of 1 */
+    SHELF(2, 4, 20, 1, 10, 1, 1, {3, 10, 65535, 0}, {1, 10, 1, 0});
+    /* 2 of 9, 10 and 11: the third alone; then two, the lowest at the end */
+    SHELF(3, 6, 30, 2, 11, 2, 1, {2, 9, 1, 0}, {2, 10, 1, 0}, {2, 11, 1, 0});
+    SHELF(3, 35, 250, 0, 50, 2, 2, {15, 100, 1, 0}, {20, 100, 1, 0}, {0, 50, 1, 0});
+}
+
+/* No rows, 64 and 65; a row that is bad for each of three reasons at each place. */
+static void shelf_sizes(void)
+{
+    static const struct sb2_shelf_row bad[] = {{0, 0, 1, 0}, {0, 1, 0, 0}, {2, 1, 1, 0}};
+    struct sb2_shelf_row rows[65];
+    shelf_at(__LINE__, NULL, 0, 0, no_figures);
+    for (size_t i = 0; i < 65; i++)
+        rows[i] = (struct sb2_shelf_row){65535, 65535, 65535, 65535};
+    shelf_at(__LINE__, rows, 64, 0, (struct sb2_shelf){64, 4194240, 4194240, true, 65535, 65535, 0, 0});
+    shelf_at(__LINE__, rows, 65, 16, no_figures);
+    for (size_t i = 0; i < 65; i++) {
+        struct sb2_shelf_row kept = rows[i];
+        for (size_t reason = 0; reason < 3; reason++) {
+            rows[i] = bad[reason];
+            shelf_at(__LINE__, rows, 65, 16, no_figures);
+            if (i < 64)
+                shelf_at(__LINE__, rows, 64, 17, no_figures);
+            shelf_at(__LINE__, rows + i, 1, 17, no_figures);
+        }
+        rows[i] = kept;
+    }
+    rows[63].remaining = 0;
+    shelf_at(__LINE__, rows, 64, 0, (struct sb2_shelf){64, 4128705, 4194240, true, 0, 65535, 63, 1});
+    for (size_t i = 0; i < 64; i++)
+        rows[i].remaining = 0;
+    shelf_at(__LINE__, rows, 64, 0, (struct sb2_shelf){64, 0, 4194240, true, 0, 65535, 0, 64});
+}
+
+/* Answer of a report over bytes in a room of so many, watched: 16 bytes are written or none. */
+static int shelf_bytes(struct sb2_bytes table, size_t room_length, uint8_t figures[SB2_SHELF_ROOM])
+{
+    uint8_t room[40];
+    size_t length;
+    memset(room, 0xA5, sizeof room);
+    int answer = sb2_shelf_report_bytes(table, room + 8, room_length, &length);
+    CHECK(length, answer == 0 ? 16 : 0);
+    for (size_t i = 0; i < sizeof room; i++)
+        if (i < 8 || i >= 8 + length)
+            CHECK(room[i], 0xA5);
+    memcpy(figures, room + 8, SB2_SHELF_ROOM);
+    return answer;
+}
+
+static void shelf_in_bytes(void)
+{
+    /* 1,000 of 4,000, designed 4,400, 258 cycles; 700 of 4,000 and 800 of 4,096, designed 4,400 and 5, no cycles */
+    const uint8_t table[] = {0xE8, 0x03, 0xA0, 0x0F, 0x30, 0x11, 0x02, 0x01, 0xBC, 0x02, 0xA0, 0x0F, 0x30, 0x11, 0x00, 0x00,
+                             0x20, 0x03, 0x00, 0x10, 0x05, 0x00, 0x00, 0x00};
+    const uint8_t three[] = {3, 0xC4, 0x09, 0, 0, 0x40, 0x2F, 0, 0, 1, 0xBC, 0x02, 0xA0, 0x0F, 1, 2};
+    const uint8_t none[16] = {0};
+    uint8_t many[66 * 8] = {0}, figures[SB2_SHELF_ROOM];
+    for (size_t room_length = 0; room_length <= 24; room_length++) {
+        CHECK(shelf_bytes(bytes(table, 24), room_length, figures), room_length < 16 ? 2 : 0);
+        CHECK(memcmp(figures, three, 16) == 0, room_length >= 16);
+        CHECK(shelf_bytes(nothing, room_length, figures), room_length < 16 ? 2 : 0);
+        CHECK(memcmp(figures, none, 16) == 0, room_length >= 16);
+    }
+    /* every length, its rows all bad: 2 before 4 before 16 before 17 */
+    for (size_t length = 1; length <= sizeof many; length++) {
+        CHECK(shelf_bytes(bytes(many, length), 15, figures), 2);
+        CHECK(shelf_bytes(bytes(many, length), 16, figures), length % 8 != 0 ? 4 : length > 512 ? 16 : 17);
+    }
+    memset(many, 0xFF, sizeof many);
+    const uint8_t most[] = {64, 0xC0, 0xFF, 0x3F, 0, 0xC0, 0xFF, 0x3F, 0, 1, 0xFF, 0xFF, 0xFF, 0xFF, 0, 0};
+    CHECK(shelf_bytes(bytes(many, 512), 16, figures), 0);
+    CHECK(memcmp(figures, most, 16), 0);
+    CHECK(shelf_bytes(bytes(many, 520), 16, figures), 16);
+}
+
+static void shelf(void)
+{
+    shelf_lowest();
+    shelf_fifths();
+    shelf_sizes();
+    shelf_in_bytes();
+}
+
 int main(void)
 {
     worked_examples();
@@ -1084,6 +1226,7 @@ int main(void)
     steps();
     keys();
     areas();
+    shelf();
     long_work();
     printf("second: %u passed, %u failed\n", passed, failed);
     return failed == 0 ? 0 : 1;
