@@ -38,9 +38,8 @@ use Rattle.pack.specs.Sound.{soundOf}
 use Rattle.sheet.specs.Block.{Part, ofService, ofFactory, blockAnswer, goodSheets, partOf, locatedBy, locatedOf}
 use Rattle.sheet.specs.declared.Located.{Located}
 use Rattle.sheet_writer.specs.Writing.{sheetWrote, writable, short}
-use Rattle.shelf.specs.Shelf.{anyBad, figures, reportAnswer, reportOf}
-use Rattle.shelf_row.specs.Rows.{zeros}
-use Rattle.shelf_row.specs.declared.Figures.{Figures}
+use Rattle.shelf.specs.Shelf.{anyBad}
+use Rattle.shelf.proofs.Steps.{report-answer}
 use Rattle.answers.specs.Conditions.{commandOf, isReserved, isOptional, isReadOnly, isBlock, transactConditions, isNone, overflows, tableConditions}
 use Rattle.answers.specs.Lowest.{_when_, lowest, allAbove, rising, firstHolding}
 use Rattle.answers.specs.Promises.{TransactLowest, SetUpLowest, SampleLowest, LoadLowest, StoreLowest, WriteKeyLowest, ReadKeyLowest, FindLowest, UnescapeLowest, BlockLowest, LocateLowest, WriteSheetLowest, OpenLowest, StepLowest, WriteCaptureLowest, ExchangeLowest, ComparisonLowest, ReportLowest, TableReportLowest}
@@ -190,10 +189,8 @@ comparison-lowest xs ys =
 -- ---- the shelf
 
 pub report-lowest : ReportLowest
-unfolding reportOf rising allAbove
-report-lowest rows =
-    as-it-is {A = Figures} (λ r. r .answer) (reportAnswer rows) (figures rows) (zeros (reportAnswer rows)) refl refl
-    ∙ two 16 17 (ltb 64 (length rows)) (anyBad rows) refl
+unfolding rising allAbove
+report-lowest rows = report-answer rows ∙ two 16 17 (ltb 64 (length rows)) (anyBad rows) refl
 
 pub table-report-lowest : TableReportLowest
 unfolding rising allAbove firstHolding

@@ -95,7 +95,7 @@ sampleConditions s room = (1 when not (soundOf s)) ∷ (2 when ltb room 16) ∷ 
 abbrev pub loadConditions : List ℕ → List Condition
 loadConditions area = (1 when not (isArea area)) ∷ []
 
--- 1: the room isn't one for an area, or the count of kept samples isn't a byte (RULES 1.1)
+-- 1: the room isn't one for an area, or the count of kept seconds isn't a byte (RULES 1.1)
 abbrev pub storeConditions : State → List ℕ → List Condition
 storeConditions s room = (1 when not (storable s room)) ∷ []
 

@@ -12,43 +12,29 @@ use Rattle.shelf.specs.declared.Row.{Row}
 use Rattle.shelf_row.specs.declared.Lowest.{Lowest}
 use Rattle.shelf_row.specs.declared.Lowest.the-variants.{At}
 use Rattle.shelf.specs.Shelf.{anyBad, atMost, atMostAll, lowestFrom, lowestOf}
+use Rattle.shelf.specs.Ratios.{All, AtMost, Under}
 use Rattle.shelf_row.specs.Rows.{isBad}
 use Rattle.shelf_row.specs.Step.{lowestWith}
 use Rattle.shelf.proofs.Arith.{ratio-le, ratio-lt}
 use Rattle.shelf.proofs.Lists.{or-left, or-right, good-full}
 
--- every row of a table is so
-abbrev pub All : (Row → Type 0) → List Row → Type 0
-All P [] = Unit {0}
-All P (x ∷ xs) = P x × All P xs
-
-pub all-append : (P : Row → Type 0) (xs ys : List Row) → All P xs → All P ys → All P (xs ++ ys)
+all-append : (P : Row → Type 0) (xs ys : List Row) → All P xs → All P ys → All P (xs ++ ys)
 all-append P [] ys h k = k
 all-append P (x ∷ xs) ys h k = (h .0, all-append P xs ys (h .1) k)
-
-pub all-front : (P : Row → Type 0) (xs ys : List Row) → All P (xs ++ ys) → All P xs
-all-front P [] ys h = tt
-all-front P (x ∷ xs) ys h = (h .0, all-front P xs ys (h .1))
 
 pub all-mid : (P : Row → Type 0) (xs : List Row) (y : Row) (ys : List Row) → All P (xs ++ (y ∷ ys)) → P y
 all-mid P [] y ys h = h .0
 all-mid P (x ∷ xs) y ys h = all-mid P xs y ys (h .1)
 
-pub all-map : (P Q : Row → Type 0) (xs : List Row) → ((x : Row) → P x → Q x) → All P xs → All Q xs
+all-map : (P Q : Row → Type 0) (xs : List Row) → ((x : Row) → P x → Q x) → All P xs → All Q xs
 all-map P Q [] f h = tt
 all-map P Q (x ∷ xs) f h = (f x (h .0), all-map P Q xs f (h .1))
 
-pub all-both : (P Q R : Row → Type 0) (xs : List Row) → ((x : Row) → P x → Q x → R x) → All P xs → All Q xs → All R xs
+all-both : (P Q R : Row → Type 0) (xs : List Row) → ((x : Row) → P x → Q x → R x) → All P xs → All Q xs → All R xs
 all-both P Q R [] f h k = tt
 all-both P Q R (x ∷ xs) f h k = (f x (h .0) (k .0), all-both P Q R xs f (h .1) (k .1))
 
--- a row's ratio is at most another's; strictly below another's; a row's full is above 0
-abbrev pub Most : Row → Row → Type 0
-Most r s = r .remaining * s .full ≤ s .remaining * r .full
-
-abbrev pub Under : Row → Row → Type 0
-Under r s = r .remaining * s .full < s .remaining * r .full
-
+-- a row's full is above 0
 abbrev pub Full : Row → Type 0
 Full r = zero < r .full
 
@@ -64,10 +50,10 @@ pub record Split (rows : List Row) : Type 0 where
   pub after : List Row
   pub is : rows ≡ before ++ (row ∷ after)
   pub first : All (Under row) before
-  pub least : All (Most row) rows
+  pub least : All (AtMost row) rows
 
 -- ---- the definition's tests
-most-all : (r : Row) (xs : List Row) → All (Most r) xs → atMostAll r xs ≡ true
+most-all : (r : Row) (xs : List Row) → All (AtMost r) xs → atMostAll r xs ≡ true
 unfolding atMostAll
 most-all r [] h = refl
 most-all r (x ∷ xs) h = rw (le-leb (r .remaining * x .full) (x .remaining * r .full) (h .0), most-all r xs (h .1))
@@ -79,7 +65,7 @@ not-most s r (x ∷ xs) ys h = rw (not-most s r xs ys h) (and-false (atMost s x)
 
 -- ---- the first that is at most every row is the one before which every row is strictly above it
 found : (all before : List Row) (r : Row) (after front : List Row) (place : ℕ)
-    → All (Under r) before → All (Most r) all → all ≡ front ++ (r ∷ after)
+    → All (Under r) before → All (AtMost r) all → all ≡ front ++ (r ∷ after)
     → lowestFrom all place (before ++ (r ∷ after)) ≡ At (r .remaining) (r .full) (place + length before)
 unfolding lowestFrom
 found all [] r after front place u m e = rw (most-all r all m) (ap (At (r .remaining) (r .full)) (omega arith))
@@ -93,14 +79,14 @@ lowest-is rows s =
     ∙ ap (At (s .row .remaining) (s .row .full)) (omega arith)
 
 -- ---- a table with a row, each full above 0, has one
-most-through : (s r : Row) (xs : List Row) → Full r → Most s r → All (Most r) xs → All (Most s) xs
-most-through s r xs p h = all-map (Most r) (Most s) xs (λ x k. ratio-le (s .remaining) (s .full) (r .remaining) (r .full) (x .remaining) (x .full) p h k)
+most-through : (s r : Row) (xs : List Row) → Full r → AtMost s r → All (AtMost r) xs → All (AtMost s) xs
+most-through s r xs p h = all-map (AtMost r) (AtMost s) xs (λ x k. ratio-le (s .remaining) (s .full) (r .remaining) (r .full) (x .remaining) (x .full) p h k)
 
-under-through : (s r : Row) (xs : List Row) → All Full xs → Under s r → All (Most r) xs → All (Under s) xs
-under-through s r xs p h = all-both Full (Most r) (Under s) xs (λ x f k. ratio-lt (s .remaining) (s .full) (r .remaining) (r .full) (x .remaining) (x .full) f h k) p
+under-through : (s r : Row) (xs : List Row) → All Full xs → Under s r → All (AtMost r) xs → All (Under s) xs
+under-through s r xs p h = all-both Full (AtMost r) (Under s) xs (λ x f k. ratio-lt (s .remaining) (s .full) (r .remaining) (r .full) (x .remaining) (x .full) f h k) p
 
-under-most : (r : Row) (xs : List Row) → All (Under r) xs → All (Most r) xs
-under-most r xs = all-map (Under r) (Most r) xs (λ x k. le-of-lt-here (r .remaining * x .full) (x .remaining * r .full) k)
+under-most : (r : Row) (xs : List Row) → All (Under r) xs → All (AtMost r) xs
+under-most r xs = all-map (Under r) (AtMost r) xs (λ x k. le-of-lt-here (r .remaining * x .full) (x .remaining * r .full) k)
   where
     le-of-lt-here : (a b : ℕ) → a < b → a ≤ b
     le-of-lt-here a b h = omega arith
@@ -118,7 +104,7 @@ pick-front s xs p ps w true t =
       least = (omega arith, w .least);
     }
 pick-front s xs p ps w false t =
-    let m : Most s (w .row) = ltb-false (w .row .remaining * s .full) (s .remaining * w .row .full) t in
+    let m : AtMost s (w .row) = ltb-false (w .row .remaining * s .full) (s .remaining * w .row .full) t in
     let f : Full (w .row) = all-mid Full (w .before) (w .row) (w .after) (subst (All Full) (w .is) ps) in
     record {
       before = [];
@@ -143,10 +129,10 @@ last-row xs x ps w u =
       after = [];
       is = refl;
       first = us;
-      least = all-append (Most x) xs (x ∷ []) (under-most x xs us) (omega arith, tt);
+      least = all-append (AtMost x) xs (x ∷ []) (under-most x xs us) (omega arith, tt);
     }
 
-same-row : (xs : List Row) (x : Row) (w : Split xs) → Most (w .row) x → Split (xs ++ (x ∷ []))
+same-row : (xs : List Row) (x : Row) (w : Split xs) → AtMost (w .row) x → Split (xs ++ (x ∷ []))
 same-row xs x w m =
     record {
       before = w .before;
@@ -154,7 +140,7 @@ same-row xs x w m =
       after = w .after ++ (x ∷ []);
       is = ap (λ (l : List Row). l ++ (x ∷ [])) (w .is) ∙ append-assoc (w .before) (w .row ∷ w .after) (x ∷ []);
       first = w .first;
-      least = all-append (Most (w .row)) xs (x ∷ []) (w .least) (m, tt);
+      least = all-append (AtMost (w .row)) xs (x ∷ []) (w .least) (m, tt);
     }
 
 one-more : (xs : List Row) (x : Row) → All Full xs → (w : Split xs) (b : Bool) → ltb (x .remaining * w .row .full) (w .row .remaining * x .full) ≡ b

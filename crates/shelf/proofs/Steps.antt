@@ -10,14 +10,23 @@ use native.Mathlib.Omega.{arith}
 use lib.Dec.{ltb, eqb}
 use lib.ListN.{length, length-append, take, getD}
 use lib.Seq.{take-suc, take-length, length-take-le}
-use borrow.Author.Tests.{lt-ltb, le-ltb, ltb-true, ltb-false}
+use borrow.Author.Tests.{lt-ltb, le-ltb, ltb-true, ltb-false, eqb-true}
 use Rattle.shelf.specs.declared.Row.{Row}
-use Rattle.shelf.specs.Shelf.{anyBad, total, totalRemaining, totalFull, lowestFrom, noRow, figures, reportOf}
+use Rattle.shelf.specs.Shelf.{anyBad, total, totalRemaining, totalFull, lowestFrom, noRow, figures, reportAnswer, reportOf}
 use Rattle.shelf_row.specs.Rows.{isBad, isLow, countAnswer, zeros}
 use Rattle.shelf_row.specs.Step.{figuresWith, Fits}
 use Rattle.shelf_row.specs.declared.Figures.{Figures}
 use Rattle.shelf.proofs.Lists.{bad-append, length-one, total-one, low-most, good-full}
 use Rattle.shelf.proofs.Low.{all-full, lowest-more}
+
+-- a report's answer, with figures and without
+pub report-answer : (rows : List Row) → reportOf rows .answer ≡ reportAnswer rows
+unfolding reportOf
+report-answer rows = either (reportAnswer rows) (eqb (reportAnswer rows) 0) refl
+  where
+    either : (n : ℕ) (b : Bool) → eqb n 0 ≡ b → cond b (figures rows) (zeros n) .answer ≡ n
+    either n true e = sym (eqb-true n 0 e)
+    either n false e = refl
 
 -- at most 64 rows
 pub report-small : (rows : List Row) → length rows ≤ 64 → reportOf rows ≡ cond (anyBad rows) (zeros 17) (figures rows)
@@ -75,7 +84,7 @@ module _ (xs : List Row) (x : Row) where
 abbrev pub Small : List Row → Type 0
 Small rows = (totalRemaining rows ≤ 65535 * length rows) × (totalFull rows ≤ 65535 * length rows)
 
-pub small-more : (xs : List Row) (x : Row) → x .remaining < 65536 → x .full < 65536 → Small xs → Small (xs ++ (x ∷ []))
+small-more : (xs : List Row) (x : Row) → x .remaining < 65536 → x .full < 65536 → Small xs → Small (xs ++ (x ∷ []))
 small-more xs x a b s = (
   omega (arith, length-one xs x, total-one (λ (r : Row). r .remaining) xs x),
   omega (arith, length-one xs x, total-one (λ (r : Row). r .full) xs x),

@@ -1,1 +1,2 @@
 pub mod Shelf
+pub mod Ratios

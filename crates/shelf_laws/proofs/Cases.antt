@@ -7,8 +7,8 @@ use Prim.Native.Nat.{ℕ, _≤_, _<_}
 use native.Mathlib.Omega.{arith}
 use lib.Dec.{ltb}
 use lib.ListN.{length}
-use borrow.Author.Tests.{ltb-true, ltb-false, lt-ltb, le-ltb}
-use Rattle.shelf.specs.Shelf.{anyBad, figures, reportAnswer, reportOf}
+use borrow.Author.Tests.{ltb-true, ltb-false}
+use Rattle.shelf.specs.Shelf.{anyBad, figures, reportOf}
 use Rattle.shelf.specs.declared.Row.{Row}
 use Rattle.shelf_row.specs.Rows.{zeros}
 use Rattle.shelf_row.specs.declared.Figures.{Figures}
@@ -51,13 +51,4 @@ served rows h = by (case rows)
     by : Case rows → Good rows
     by (large many e) = absurd (omega (arith, answered rows (zeros 16) e 0 h))
     by (bad few b e) = absurd (omega (arith, answered rows (zeros 17) e 0 h))
-    by (good g) = g
-
--- the same by the definition of the answer
-pub answers-none : (rows : List Row) → reportAnswer rows ≡ 0 → Good rows
-answers-none rows h = by (case rows)
-  where
-    by : Case rows → Good rows
-    by (large many e) = absurd (omega (arith, rw (lt-ltb 64 (length rows) many) at h))
-    by (bad few b e) = absurd (omega (arith, rw (le-ltb 64 (length rows) few, b) at h))
     by (good g) = g

@@ -3,7 +3,7 @@
 use mathlib.Core.Path.{_≡_, refl, sym, ap, _∙_}
 use mathlib.Core.Bool.{Bool, true, false, cond}
 use mathlib.Core.List.{List, [], _∷_, _++_, append-nil}
-use Prim.Native.Nat.{ℕ, zero, suc, _<_}
+use Prim.Native.Nat.{ℕ, _<_}
 use native.Mathlib.Omega.{arith}
 use lib.Dec.{ltb}
 use lib.ListN.{length}
@@ -17,30 +17,24 @@ use Rattle.shelf_row.specs.Rows.{isThere, lowestRemaining, lowestFull, lowestPl
 use Rattle.shelf_row.specs.declared.Figures.{Figures}
 use Rattle.shelf_row.specs.declared.Lowest.{Lowest}
 use Rattle.shelf_row.specs.declared.Lowest.the-variants.{At, None}
-use Rattle.shelf.proofs.Steps.{report-none}
+use Rattle.shelf.proofs.Steps.{report-answer, report-none}
 use Rattle.shelf_table.specs.Table.{rowsIn, isRagged, figuresWidths, figuresNumbers, figuresBytes, tableAnswer, tableRoom}
-use Rattle.shelf_laws.specs.Promises.{OfWords, Words, row}
+use Rattle.shelf_laws.specs.Promises.{OfWords, Words}
 use Rattle.shelf_laws.specs.Tables.{figuresFrom, figuresIn, SixteenBytes, FiguresBack, FiguresTell, RoomShows}
 use Rattle.shelf_laws.proofs.Totals.{totals-fit, counts-fit}
-use Rattle.shelf_laws.proofs.Lowest.{lowest-row}
+use Rattle.shelf_laws.proofs.Lowest.{all-at, lowest-row}
 use Rattle.shelf_laws.proofs.Tables.{rows-of-words}
-use Rattle.shelf_laws.proofs.Cases.{answers-none}
 
 pub sixteen-bytes : SixteenBytes
 sixteen-bytes f = refl
 
 -- ---- each number is within its width
 
-words-at : (rows : List Row) → Words rows → (k : ℕ) → k < length rows → OfWords (row rows k)
-words-at [] w k l = absurd (omega arith)
-words-at (r ∷ rows) w zero l = w .0
-words-at (r ∷ rows) w (suc k) l = words-at rows (w .1) k (omega arith)
-
 lowest-words : (rows : List Row) → Words rows → reportOf rows .answer ≡ 0 → (lowestRemaining (reportOf rows .lowest) < 65536) × (lowestFull (reportOf rows .lowest) < 65536)
 lowest-words [] w h = rw report-none (omega arith, omega arith)
 lowest-words (r ∷ rows) w h =
     let l = lowest-row (r ∷ rows) h (omega arith) in
-    let o = words-at (r ∷ rows) w (l .0) (l .2 .within) in
+    let o = all-at OfWords (r ∷ rows) w (l .0) (l .2 .within) in
     rw (l .1) (o .remaining, o .full)
 
 flag-fits : (l : Lowest) → flagOf (isThere l) < 256
@@ -76,7 +70,7 @@ figures-tell xs ys u v h k e = sym (figures-back xs u h) ∙ ap figuresIn e ∙ 
 
 -- a served call's table is served
 table-served : (table room : List ℕ) → tableAnswer table room ≡ 0 → reportOf (rowsIn table) .answer ≡ 0
-table-served table room h = ap (λ (f : Figures). f .answer) (answers-none (rowsIn table) (last (ltb (length room) 16) (isRagged table) (reportAnswer (rowsIn table)) h) .is)
+table-served table room h = report-answer (rowsIn table) ∙ last (ltb (length room) 16) (isRagged table) (reportAnswer (rowsIn table)) h
   where
     last : (a b : Bool) (n : ℕ) → cond a 2 (cond b 4 n) ≡ 0 → n ≡ 0
     last true b n e = absurd (omega arith)

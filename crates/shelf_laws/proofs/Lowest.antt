@@ -11,15 +11,16 @@ use lib.ListN.{length, length-append, List·getD-append}
 use lib.Seq.{getD-append-seam}
 use borrow.Author.Tests.{leb-true, leb-false}
 use Rattle.shelf.specs.Shelf.{anyBad, noRow}
+use Rattle.shelf.specs.Ratios.{All, AtMost, Under}
 use Rattle.shelf.specs.declared.Row.{Row}
 use Rattle.shelf_row.specs.declared.Figures.{Figures}
 use Rattle.shelf_row.specs.declared.Lowest.the-variants.{At}
 use Rattle.shelf.proofs.Arith.{ratio-le}
-use Rattle.shelf.proofs.Low.{All, Split, split, all-full, lowest-is}
-use Rattle.shelf_laws.specs.Promises.{row, AtMost, Under, IsLowest, LowestIs, OneLowest, Ordered}
+use Rattle.shelf.proofs.Low.{Split, split, all-full, lowest-is}
+use Rattle.shelf_laws.specs.Promises.{row, IsLowest, LowestIs, OneLowest, Ordered}
 use Rattle.shelf_laws.proofs.Cases.{served}
 
-all-at : (P : Row → Type 0) (xs : List Row) → All P xs → (k : ℕ) → k < length xs → P (row xs k)
+pub all-at : (P : Row → Type 0) (xs : List Row) → All P xs → (k : ℕ) → k < length xs → P (row xs k)
 all-at P [] h k l = absurd (omega arith)
 all-at P (x ∷ xs) h zero l = h .0
 all-at P (x ∷ xs) h (suc k) l = all-at P xs (h .1) k (omega arith)

@@ -9,11 +9,12 @@ use native.Mathlib.Nat.{ℕ-set, le-antisymm}
 use native.Mathlib.Omega.{arith}
 use lib.ListN.{length}
 use Rattle.shelf.specs.Shelf.{anyBad, total, lowestFrom, lowestOf, reportOf}
+use Rattle.shelf.specs.Ratios.{All, AtMost}
 use Rattle.shelf.specs.declared.Row.{Row}
 use Rattle.shelf_row.specs.Rows.{isBad, isLow, zeros}
-use Rattle.shelf.proofs.Low.{All, all-mid, Split, split, all-full, lowest-is}
+use Rattle.shelf.proofs.Low.{all-mid, Split, split, all-full, lowest-is}
 use Rattle.shelf.proofs.Steps.{report-large}
-use Rattle.shelf_laws.specs.Promises.{AtMost, SameRatio, SameFigures, AnyOrder}
+use Rattle.shelf_laws.specs.Promises.{SameRatio, SameFigures, AnyOrder}
 use Rattle.shelf_laws.proofs.Cases.{Case, large, bad, good, Good, case, good-is, bad-is}
 
 -- ---- folds

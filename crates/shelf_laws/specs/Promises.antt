@@ -7,6 +7,7 @@ use mathlib.Core.Logic.{_⊎_, _↔_}
 use mathlib.Core.Path.{_≡_}
 use lib.ListN.{length, getD}
 use Rattle.shelf.specs.Shelf.{noRow, reportOf, totalRemaining, totalFull}
+use Rattle.shelf.specs.Ratios.{All, AtMost, Under}
 use Rattle.shelf.specs.declared.Row.{Row}
 use Rattle.shelf_row.specs.Rows.{isLow, lowestPlace, zeros}
 use Rattle.shelf_row.specs.declared.Figures.{Figures}
@@ -24,8 +25,7 @@ pub record OfWords (r : Row) : Type 0 where
 
 -- each row's are
 abbrev pub Words : List Row → Type 0
-Words [] = Unit {0}
-Words (r ∷ rows) = OfWords r × Words rows
+Words rows = All OfWords rows
 
 -- the row at a place, from 0
 abbrev pub row : List Row → ℕ → Row
@@ -57,14 +57,6 @@ abbrev pub CountsFit : Type 0
 CountsFit = (rows : List Row) → (reportOf rows .packs ≤ 64) × (reportOf rows .low ≤ 64) × (lowestPlace (reportOf rows .lowest) < 64)
 
 -- ---- the lowest
-
--- a row's remaining ÷ full is at most another's, by products (RULES 13.5)
-abbrev pub AtMost : Row → Row → Type 0
-AtMost r s = r .remaining * s .full ≤ s .remaining * r .full
-
--- strictly below another's
-abbrev pub Under : Row → Row → Type 0
-Under r s = r .remaining * s .full < s .remaining * r .full
 
 -- the ratio at a place is at most every row's, and strictly below every earlier one's (RULES 13.3)
 pub record IsLowest (rows : List Row) (place : ℕ) : Type 0 where

@@ -1,29 +1,19 @@
 -- The answer of a table and a room by each test, and what a refusal and a served report leave.
 -- Assumes nothing.
 use mathlib.Core.Path.{_≡_, refl, sym, _∙_}
-use mathlib.Core.Bool.{Bool, true, false, cond}
+use mathlib.Core.Bool.{cond}
 use mathlib.Core.List.{List, _++_}
 use Prim.Native.Nat.{ℕ, _%_, _≤_, _<_}
 use native.Mathlib.Omega.{arith}
-use borrow.Author.Tests.{lt-ltb, le-ltb, eq-eqb, ne-eqb, eqb-true}
+use borrow.Author.Tests.{lt-ltb, le-ltb, eq-eqb, ne-eqb}
 use lib.Dec.{eqb}
 use lib.ListN.{length, drop}
 use Rattle.rooms.specs.Rooms.{placed, wrote}
 use Rattle.rooms.specs.declared.Wrote.{Wrote}
-use Rattle.shelf.specs.Shelf.{figures, reportAnswer, reportOf}
-use Rattle.shelf.specs.declared.Row.{Row}
-use Rattle.shelf_row.specs.Rows.{zeros}
+use Rattle.shelf.specs.Shelf.{reportOf}
+use Rattle.shelf.proofs.Steps.{report-answer}
 use Rattle.shelf_row.specs.declared.Figures.{Figures}
 use Rattle.shelf_table.specs.Table.{rowsIn, figuresBytes, tableAnswer, tableWrote, tableRoom}
-
--- a report's answer, with figures and without
-report-answer : (rows : List Row) → reportOf rows .answer ≡ reportAnswer rows
-unfolding reportOf
-report-answer rows = either (reportAnswer rows) (eqb (reportAnswer rows) 0) refl
-  where
-    either : (n : ℕ) (b : Bool) → eqb n 0 ≡ b → cond b (figures rows) (zeros n) .answer ≡ n
-    either n true e = sym (eqb-true n 0 e)
-    either n false e = refl
 
 module _ (table room : List ℕ) where
   -- the answer and the room that a call leaves
