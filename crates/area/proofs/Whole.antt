@@ -78,8 +78,8 @@ state-laid room s n ea es eh el et er ek =
 
 -- ---- stored, then read
 
--- the recent currents end the area
-recent-part : (s : State) → length (s .pack .recent .currents) ≡ 60 → between (areaOf s) recentAt areaLength ≡ recentBytes (s .pack .recent)
+-- the recent minute ends the area
+recent-part : (s : State) → length (s .pack .recent .totals) ≡ 60 → between (areaOf s) recentAt areaLength ≡ recentBytes (s .pack .recent)
 unfolding areaOf
 recent-part s n =
     let K = recentBytes (s .pack .recent) in

@@ -1,4 +1,4 @@
--- The state in a lent area of 186 bytes, for which document 01 has no rule: the error code, then each part, the one that may grow last; each number low byte first.
+-- The state in a lent area of 312 bytes, for which document 01 has no rule: the error code, then each part, the one that may grow last; each number low byte first.
 --
 --   at   bytes
 --     0      1  error code
@@ -12,8 +12,10 @@
 --    48  2 × 2  full capacity, CycleCount
 --    52      1  flag: FullyDischarged
 --    53  3 × 4  hold, alarm timer, charger timer
---    65 60 × 2  the recent currents, newest first
---   185      1  how many are kept
+--    65 60 × 4  the totals of complete seconds, newest first
+--   305      1  how many are kept
+--   306      2  the begun second's milliseconds
+--   308      4  its total
 --
 -- Assumes nothing.
 use Prim.Native.Nat.{ℕ, _+_}
@@ -99,7 +101,7 @@ loaded s = record { answer = 0; state = s }
 unfoldable pub loadedOf : List ℕ → Loaded
 loadedOf area = cond (isArea area) (loaded (stateIn area)) (record { answer = noState; state = zeroState })
 
--- a state goes into room for an area, if its count of kept samples is a byte
+-- a state goes into room for an area, if its count of kept seconds is a byte
 abbrev pub storable : State → List ℕ → Bool
 storable s room = eqb (length room) areaLength && leb (s .pack .recent .count) 255
 

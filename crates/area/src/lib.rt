@@ -35,7 +35,7 @@ pub const TIMERS: usize = TANK + 13;
 
 pub const RECENT: usize = TIMERS + 12;
 
-pub const LENGTH: usize = RECENT + 121;
+pub const LENGTH: usize = RECENT + 247;
 
 // What an area holds.
 pub struct Loaded {

@@ -2,7 +2,7 @@
 -- Assumes nothing.
 use mathlib.Core.Path.{refl, sym, ap, _∙_}
 use mathlib.Core.List.{List, _++_}
-use Prim.Native.Nat.{ℕ, zero, suc, _+_, _≤_}
+use Prim.Native.Nat.{ℕ, zero, suc, _+_, _^_, _≤_}
 use native.Mathlib.Omega.{arith}
 use borrow.Author.Tests.{eq-eqb, le-leb}
 use lib.ListN.{replicate}
@@ -13,16 +13,18 @@ use Rattle.numbers.specs.Numbers.{numbersAt}
 use Rattle.area_parts.specs.Parts.{settingsBytes, hostBytes, latestBytes, tankBytes, timersBytes, recentBytes, recentIn}
 use Rattle.numbers.proofs.Numbers.{bytes-between, number-fits}
 use Rattle.area.proofs.Whole.{held, read-back}
-use Rattle.area_laws.specs.Laws.{AreasTell, HeldInArea, StatesTell, SoundGoesIn, ErrorFirst}
-use Rattle.pack.proofs.Soundness.{count-of-sound}
+use Rattle.area_laws.specs.Laws.{AreasTell, HeldInArea, StatesTell, SoundGoesIn, ErrorFirst, minuteAnew, AreaAnew, SoundAnew}
+use Rattle.pack.proofs.Soundness.{count-of-sound, parts, pack-of-sound, pack-sound, code-of-sound, sound-state}
+use Rattle.recent.proofs.Soundness.{zero-sound}
 use Rattle.pack.specs.declared.Pack.{Pack}
 
 pub areas-tell : AreasTell
 areas-tell a b ba bb ia ib e = sym (held a ba ia) ∙ ap areaOf e ∙ held b bb ib
 
-words-fit : (l : List ℕ) → Bytes l → (n at : ℕ) → Below 65536 (numbersAt (replicate n 2) l at)
-words-fit l b zero at = tt
-words-fit l b (suc n) at = (number-fits l b 2 at, words-fit l b n (at + 2))
+-- numbers of one width are each within it
+numbers-fit : (width : ℕ) (l : List ℕ) → Bytes l → (n at : ℕ) → Below (256 ^ width) (numbersAt (replicate n width) l at)
+numbers-fit width l b zero at = tt
+numbers-fit width l b (suc n) at = (number-fits l b width at, numbers-fit width l b n (at + width))
 
 pub held-in-area : HeldInArea
 unfolding stateIn recentIn
@@ -53,12 +55,19 @@ held-in-area a b =
                       };
                   host = record { ManufacturerAccess = host 0; RemainingCapacityAlarm = host 2; RemainingTimeAlarm = host 4; AtRate = host 6 };
                   latest = record { voltage = latest 2 0; current = latest 2 2; temperature = latest 2 4; counter = latest 4 6 };
-                  recent = record { sixty = refl; currents = words-fit (between a recentAt areaLength) (bytes-between a b recentAt areaLength) 60 0; count = omega (arith, recent 1 120) };
+                  recent =
+                      record {
+                        sixty = refl;
+                        totals = numbers-fit 4 (between a recentAt areaLength) (bytes-between a b recentAt areaLength) 60 0;
+                        count = omega (arith, recent 1 240);
+                        begun = recent 2 241;
+                        total = recent 4 243;
+                      };
                   tank = record { charge = tank 8 0; full = tank 2 8; CycleCount = tank 2 10 };
                   timers = record { hold = timers 0; alarm = timers 4; charger = timers 8 };
                 };
           };
-      count = omega (arith, recent 1 120);
+      count = omega (arith, recent 1 240);
     }
 
 pub states-tell : StatesTell
@@ -74,3 +83,14 @@ error-first s t e =
     ap
     (λ (p : Pack). settingsBytes (p .settings) ++ hostBytes (p .host) ++ latestBytes (p .latest) ++ tankBytes (p .tank) ++ timersBytes (p .timers) ++ recentBytes (p .recent))
     e
+
+pub area-anew : AreaAnew
+unfolding areaOf recentBytes
+area-anew s = refl
+
+pub sound-anew : SoundAnew
+sound-anew s h =
+    let f = parts (s .pack) (pack-of-sound s h) in
+    sound-state (minuteAnew s)
+    (pack-sound (minuteAnew s .pack) (record { settings = f .settings; tank = f .tank; recent = zero-sound; timers = f .timers }))
+    (code-of-sound s h)

@@ -2,11 +2,14 @@
 -- is in the contracts of `store` and `load`.) Assumes nothing: these are definitions.
 use mathlib.Core.Path.{_≡_}
 use mathlib.Core.Bool.{true}
-use mathlib.Core.List.{List}
+use mathlib.Core.List.{List, _++_}
 use Prim.Native.Nat.{ℕ, _≤_}
-use lib.ListN.{length, drop}
+use lib.ListN.{length, take, drop, replicate}
 use Rattle.rooms.specs.Rooms.{Bytes}
-use Rattle.area.specs.Area.{areaLength, areaOf, stateIn, isArea, storedOf}
+use Rattle.numbers.specs.Numbers.{bytesTaken}
+use Rattle.area_parts.specs.Parts.{recentWidths}
+use Rattle.recent.specs.Recent.{zeroRecent}
+use Rattle.area.specs.Area.{recentAt, areaLength, areaOf, stateIn, isArea, storedOf}
 use Rattle.pack.specs.Fits.{Fits}
 use Rattle.pack.specs.Sound.{soundOf}
 use Rattle.pack.specs.declared.State.{State}
@@ -31,6 +34,30 @@ StatesTell = (s t : State) → InArea s → InArea t → areaOf s ≡ areaOf t �
 -- a sound state goes into room for an area
 abbrev pub SoundGoesIn : Type 0
 SoundGoesIn = (s : State) (room : List ℕ) → soundOf s ≡ true → length room ≡ areaLength → storedOf s room ≡ 0
+
+-- a state whose minute begins anew: no second complete, none begun
+abbrev pub minuteAnew : State → State
+minuteAnew s =
+    record {
+      error = s .error;
+      pack =
+          record {
+            settings = s .pack .settings;
+            host = s .pack .host;
+            latest = s .pack .latest;
+            recent = zeroRecent;
+            tank = s .pack .tank;
+            timers = s .pack .timers;
+          };
+    }
+
+-- its area is the bytes before the minute with zeros behind them (RULES 12.5)
+abbrev pub AreaAnew : Type 0
+AreaAnew = (s : State) → areaOf (minuteAnew s) ≡ take recentAt (areaOf s) ++ replicate (bytesTaken recentWidths) 0
+
+-- and it is sound where the state was (RULES 12.5)
+abbrev pub SoundAnew : Type 0
+SoundAnew = (s : State) → soundOf s ≡ true → soundOf (minuteAnew s) ≡ true
 
 -- the error code is the area's first byte: where a call leaves the pack as it was, every other byte of the area stays
 abbrev pub ErrorFirst : Type 0

@@ -3,12 +3,12 @@
 use mathlib.Core.Path.{_≡_, refl, sym, ap, _∙_}
 use mathlib.Core.Bool.{Bool, true, false, and-eq-true-iff}
 use mathlib.Core.List.{List, [], _∷_, _++_, append-assoc}
-use Prim.Native.Nat.{ℕ, zero, suc, _%_, _<_}
+use Prim.Native.Nat.{ℕ, zero, suc, _+_, _%_, _^_, _<_}
 use native.Mathlib.Omega.{arith}
 use borrow.Author.Tests.{eqb-true, eqb-false, leb-true}
 use lib.Dec.{eqb, leb}
 use lib.ListN.{length, getD, drop, replicate, length-append}
-use lib.Seq.{sets, take-at, getD-append-seam}
+use lib.Seq.{sets, take-at, getD-append-add}
 use Rattle.rooms.specs.Rooms.{Bytes}
 use Rattle.rooms.proofs.Rooms.{then, whole}
 use Rattle.pack.specs.Fits.{SettingsFit, HostFit, LatestFit, TankFit, TimersFit}
@@ -89,7 +89,7 @@ tank-is t f = ap (λ (ns : List ℕ). flags (drop 3 ns)) (tank-numbers t f) ∙ 
 pub timers-back : (t : Timers) → TimersFit t → timersIn (timersBytes t) ≡ t
 timers-back t f = ap timersFrom (numbers-back timersWidths (timersNumbers t) (timersBytes t) 0 (f .hold, (f .alarm, (f .charger, tt))) refl)
 
--- ---- the recent currents
+-- ---- the recent minute
 
 numbers-bytes-length : (widths values : List ℕ) → length widths ≡ length values → length (numbersBytes widths values) ≡ bytesTaken widths
 numbers-bytes-length [] values e = refl
@@ -103,33 +103,52 @@ numbers-bytes-append [] (v ∷ vs) ms ws e = absurd (omega (arith, e))
 numbers-bytes-append (n ∷ ns) [] ms ws e = absurd (omega (arith, e))
 numbers-bytes-append (n ∷ ns) (v ∷ vs) ms ws e = rw (numbers-bytes-append ns vs ms ws (omega (arith, e))) (sym (append-assoc (numberBytes n v) (numbersBytes ns vs) (numbersBytes ms ws)))
 
-words-within : (n k : ℕ) (ws : List ℕ) → length ws ≡ n → Below 65536 ws → k < 256 → Within (replicate n 2 ++ 1 ∷ []) (ws ++ k ∷ [])
-words-within zero k [] e f h = (h, tt)
-words-within zero k (w ∷ ws) e f h = absurd (omega (arith, e))
-words-within (suc n) k [] e f h = absurd (omega (arith, e))
-words-within (suc n) k (w ∷ ws) e f h = (f .0, words-within n k ws (omega (arith, e)) (f .1) h)
+-- numbers of one width, then others
+numbers-within : (width n : ℕ) (values ms ws : List ℕ) → length values ≡ n → Below (256 ^ width) values → Within ms ws
+    → Within (replicate n width ++ ms) (values ++ ws)
+numbers-within width zero [] ms ws e f h = h
+numbers-within width zero (v ∷ values) ms ws e f h = absurd (omega (arith, e))
+numbers-within width (suc n) [] ms ws e f h = absurd (omega (arith, e))
+numbers-within width (suc n) (v ∷ values) ms ws e f h = (f .0, numbers-within width n values ms ws (omega (arith, e)) (f .1) h)
 
 module _ (r : Recent) where
-  pub recent-length : length (r .currents) ≡ 60 → length (recentBytes r) ≡ bytesTaken recentWidths
+  -- what follows the totals
+  abbrev rest : List ℕ
+  rest = r .count ∷ r .begun ∷ r .total ∷ []
+
+  after-totals : length (r .totals) ≡ 60 → (k : ℕ) → getD (recentNumbers r) (60 + k) 0 ≡ getD rest k 0
+  after-totals n k = rw n at (getD-append-add (r .totals) rest k 0)
+
+  pub recent-length : length (r .totals) ≡ 60 → length (recentBytes r) ≡ bytesTaken recentWidths
   unfolding recentBytes
-  recent-length n = numbers-bytes-length recentWidths (recentNumbers r) (omega (arith, n, length-append (r .currents) (r .count ∷ [])))
+  recent-length n = numbers-bytes-length recentWidths (recentNumbers r) (omega (arith, n, length-append (r .totals) rest))
 
   pub recent-back : RecentFit r → r .count < 256 → recentIn (recentBytes r) ≡ r
   unfolding recentIn recentBytes
   recent-back f small =
-      let count : getD (recentNumbers r) 60 0 ≡ r .count = rw (f .sixty) at (getD-append-seam (r .currents) (r .count) [] 0) in
-      ap recentFrom (numbers-back recentWidths (recentNumbers r) (numbersBytes recentWidths (recentNumbers r)) 0 (words-within 60 (r .count) (r .currents) (f .sixty) (f .currents) small) refl)
-      ∙ rw (take-at (r .currents) (r .count ∷ []) 60 (f .sixty), count)
+      ap recentFrom
+      (numbers-back recentWidths (recentNumbers r) (numbersBytes recentWidths (recentNumbers r)) 0
+      (numbers-within 4 60 (r .totals) (1 ∷ 2 ∷ 4 ∷ []) rest (f .sixty) (f .totals) (small, (f .begun, (f .total, tt))))
+      refl)
+      ∙ rw (take-at (r .totals) rest 60 (f .sixty), after-totals (f .sixty) 0, after-totals (f .sixty) 1, after-totals (f .sixty) 2)
 
-  -- the words, then the count
-  pub recent-laid : (part : List ℕ) → length part ≡ bytesTaken recentWidths → length (r .currents) ≡ 60
-      → sets (sets part 0 (numbersBytes (replicate (length (r .currents)) 2) (r .currents))) 120 (numberBytes 1 (r .count)) ≡ recentBytes r
+  -- the totals, then each number that follows
+  pub recent-laid : (part : List ℕ) → length part ≡ bytesTaken recentWidths → length (r .totals) ≡ 60
+      → sets
+      (sets
+      (sets (sets part 0 (numbersBytes (replicate (length (r .totals)) 4) (r .totals))) 240 (numberBytes 1 (r .count)))
+      241
+      (numberBytes 2 (r .begun)))
+      243
+      (numberBytes 4 (r .total))
+      ≡ recentBytes r
   unfolding recentBytes
   recent-laid part size n =
-      let ws : List ℕ = numbersBytes (replicate 60 2) (r .currents) in
-      let k : length ws ≡ 120 = numbers-bytes-length (replicate 60 2) (r .currents) (sym n) in
-      let all : numbersBytes recentWidths (recentNumbers r) ≡ ws ++ numberBytes 1 (r .count) = numbers-bytes-append (replicate 60 2) (r .currents) (1 ∷ []) (r .count ∷ []) (sym n) in
-      rw (n, all) (then part 0 120 ws (numberBytes 1 (r .count)) refl (omega arith) ∙ whole part (ws ++ numberBytes 1 (r .count)) (omega (arith, length-append ws (numberBytes 1 (r .count)))))
+      let ts : List ℕ = numbersBytes (replicate 60 4) (r .totals) in
+      let after : List ℕ = numbersBytes (1 ∷ 2 ∷ 4 ∷ []) rest in
+      let k : length ts ≡ 240 = numbers-bytes-length (replicate 60 4) (r .totals) (sym n) in
+      let all : numbersBytes recentWidths (recentNumbers r) ≡ ts ++ after = numbers-bytes-append (replicate 60 4) (r .totals) (1 ∷ 2 ∷ 4 ∷ []) rest (sym n) in
+      rw (n, all) (then part 0 240 ts after refl (omega arith) ∙ whole part (ts ++ after) (omega (arith, length-append ts after)))
 
 -- ---- read, then stored
 

@@ -144,16 +144,16 @@ timersBytes t = numbersBytes timersWidths (timersNumbers t)
 abbrev pub timersIn : List ℕ → Timers
 timersIn part = timersFrom (numbersAt timersWidths part 0)
 
--- ---- the recent currents: 60 words, newest first, and how many are kept in 1 byte
+-- ---- the recent minute: 60 totals of 4 bytes, newest first, how many are kept in 1 byte, the begun second's milliseconds in 2 and its total in 4
 
 abbrev pub recentWidths : List ℕ
-recentWidths = replicate 60 2 ++ 1 ∷ []
+recentWidths = replicate 60 4 ++ (1 ∷ 2 ∷ 4 ∷ [])
 
 abbrev pub recentNumbers : Recent → List ℕ
-recentNumbers r = r .currents ++ r .count ∷ []
+recentNumbers r = r .totals ++ (r .count ∷ r .begun ∷ r .total ∷ [])
 
 abbrev pub recentFrom : List ℕ → Recent
-recentFrom ns = record { currents = take 60 ns; count = getD ns 60 0 }
+recentFrom ns = record { totals = take 60 ns; count = getD ns 60 0; begun = getD ns 61 0; total = getD ns 62 0 }
 
 unfoldable pub recentBytes : Recent → List ℕ
 recentBytes r = numbersBytes recentWidths (recentNumbers r)

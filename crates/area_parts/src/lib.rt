@@ -6,7 +6,9 @@ ghost use Rattle.numbers.specs.Numbers.{bytesTaken, flagOf};
 ghost use Rattle.area_parts.specs.Parts.{settingsWidths, hostWidths, latestWidths, tankWidths, timersWidths, recentWidths, settingsBytes, hostBytes, latestBytes, tankBytes, timersBytes, recentBytes, settingsIn, hostIn, latestIn, tankIn, timersIn, recentIn, isHost, isTank};
 use numbers::byte_at;
 use numbers::long_at;
+use numbers::longs_at;
 use numbers::number_at;
+use numbers::put_longs;
 use numbers::put_number;
 use numbers::put_words;
 use numbers::word_at;
@@ -96,9 +98,11 @@ pub fn put_recent(part: &mut [u8], r: Recent)
     ensures memory { λ _. ⌜ now (part .exit) ≡ recentBytes r ⌝ }
     ensures fit { λ _. ⌜ RecentFit r ⌝ }
 {
-    let currents = r.currents;
-    put_words(part, 0, &currents);
-    put_number(part, 120, 1, r.count as u64);
+    let totals = r.totals;
+    put_longs(part, 0, &totals);
+    put_number(part, 240, 1, r.count as u64);
+    put_number(part, 241, 2, r.begun as u64);
+    put_number(part, 243, 4, r.total as u64);
 }
 
 pub fn settings_in(part: &[u8]) -> Settings
@@ -192,11 +196,13 @@ pub fn recent_in(part: &[u8]) -> Recent
     requires { ⌜ length (now part) ≡ bytesTaken recentWidths ⌝ }
     ensures { λ r. ⌜ r ≡ recentIn (now (part .entry)) ⌝ }
 {
-    let mut currents = [0u16; 60];
-    words_at(part, 0, &mut currents);
-    let count = rooms::wide(byte_at(part, 120));
+    let mut totals = [0u32; 60];
+    longs_at(part, 0, &mut totals);
+    let count = rooms::wide(byte_at(part, 240));
     Recent {
-        currents: currents,
+        totals: totals,
         count: count,
+        begun: word_at(part, 241),
+        total: long_at(part, 243),
     }
 }

@@ -5,7 +5,7 @@ use mathlib.Core.List.{List}
 use mathlib.Core.Path.{_≡_, refl, sym, ap, ap₂, _∙_}
 use Prim.Native.Nat.{ℕ, _≤_}
 use native.Mathlib.Omega.{arith}
-use borrow.Author.Tests.{eq-eqb, ne-eqb, le-leb}
+use borrow.Author.Tests.{eq-eqb, ne-eqb, le-leb, not-false}
 use lib.Dec.{ltb}
 use lib.ListN.{length, length-append}
 use Rattle.area.specs.Area.{areaLength, areaOf, stateIn, isArea, loadedOf}
@@ -21,17 +21,21 @@ use Rattle.bus.specs.declared.Transacted.{Transacted}
 use Rattle.broadcasts.proofs.Sending.{at-most-16}
 use Rattle.clock.specs.Broadcast.{refusedSample, servedSample, sampledOf, sampleOf}
 use Rattle.clock.specs.Broadcast as clock
-use Rattle.clock.specs.Sample.{movedOf}
+use Rattle.clock.specs.Sample.{movedOf, elapsedOf}
 use Rattle.clock.specs.declared.Sampled.{Sampled}
 use Rattle.frame.specs.Transactions.{replyOf}
 use Rattle.frame.specs.declared.Request.{Request}
 use Rattle.frame.specs.declared.Request.the-variants.{Refused, Read, Write}
 use Rattle.start.specs.SetUp.{setUpRefused, packOf, setUpOf}
+use Rattle.pack.proofs.Soundness.{parts, pack-of-sound}
+use Rattle.pack.specs.Kept.{latestOf}
 use Rattle.pack.specs.Sound.{soundOf}
 use Rattle.pack.specs.declared.Sample.{Sample}
 use Rattle.start.specs.declared.Setup.{Setup}
 use Rattle.start.specs.declared.Started.{Started}
 use Rattle.pack.specs.declared.State.{State}
+use Rattle.seconds.proofs.After.{after-sound}
+use Rattle.recent.proofs.Soundness.{recent-facts}
 use Rattle.sheet.proofs.Names.{block-short}
 use Rattle.packed.proofs.Choice.{chosen}
 use Rattle.calls.specs.Calls.{startNumber, startArea, stays, areaAfter, sampleNumber, sampleArea, sampleRoom, transactNumber, transactArea, transactRoom}
@@ -53,7 +57,7 @@ an-area a e z =
     (λ f k. absurd (omega (arith, k))) (sym (ap (λ (m : Loaded). m .answer) e) ∙ z) in
     (t .0, ap (λ (m : Loaded). m .state) e ∙ t .1)
 
--- a state of at most 60 samples goes into an area
+-- a state of at most 60 seconds goes into an area
 pub stored : (s : State) (room : List ℕ) → length room ≡ areaLength → s .pack .recent .count ≤ 60 → area.storedRoom s room ≡ areaOf s
 unfolding area.storedRoom
 stored s room n most = rw (eq-eqb _ _ n, le-leb (s .pack .recent .count) 255 (omega (arith, most)))
@@ -80,19 +84,27 @@ start-served a x y size e z ea =
 
 -- ---- samples
 
--- what holds of a refusal by 1 or 2 and of a served sample holds of every sample
-by-answer : (P : Sampled → Type 0) (s : State) (x : Sample) (n : ℕ) → P (refusedSample 1 s) → P (refusedSample 2 s) → P (servedSample s x) → P (sampleOf s x n)
+-- what holds of a refusal by 1 or 2 and of a sample served on a sound state holds of every sample
+by-answer : (P : Sampled → Type 0) (s : State) (x : Sample) (n : ℕ) → P (refusedSample 1 s) → P (refusedSample 2 s)
+    → (soundOf s ≡ true → P (servedSample s x)) → P (sampleOf s x n)
 unfolding sampleOf
-by-answer P s x n one two done = chosen P (not (soundOf s)) (λ e. one) (λ e. chosen P (ltb n 16) (λ f. two) (λ f. done))
+by-answer P s x n one two done =
+    chosen P (not (soundOf s)) (λ e. one) (λ e. chosen P (ltb n 16) (λ f. two) (λ f. done (not-false (soundOf s) e)))
+
+-- a sound state keeps at most 60 seconds after a sample too
+served-count : (s : State) (x : Sample) → soundOf s ≡ true → sampledOf (s .pack) x .recent .count ≤ 60
+unfolding sampledOf movedOf
+served-count s x h =
+    let elapsed = elapsedOf (x .counter) (s .pack .latest .counter) in
+    recent-facts _ (after-sound (s .pack .recent) (latestOf x .current) elapsed (parts (s .pack) (pack-of-sound s h) .recent)) .most
 
 pub sample-count : (s : State) (x : Sample) (n : ℕ) → stays (sampleOf s x n .answer) ≡ false → sampleOf s x n .state .pack .recent .count ≤ 60
-unfolding sampledOf movedOf
 sample-count s x n =
     by-answer (λ r. stays (r .answer) ≡ false → r .state .pack .recent .count ≤ 60) s x n (λ h. absurd (true≢false h)) (λ h. absurd (true≢false h))
-    (λ h. omega arith)
+    (λ sound h. served-count s x sound)
 
 pub sample-most : (s : State) (x : Sample) (n : ℕ) → sampleOf s x n .length ≤ 16
-sample-most s x n = by-answer (λ r. r .length ≤ 16) s x n (omega arith) (omega arith) (at-most-16 (movedOf (s .pack) x))
+sample-most s x n = by-answer (λ r. r .length ≤ 16) s x n (omega arith) (omega arith) (λ sound. at-most-16 (movedOf (s .pack) x))
 
 module _ (a : List ℕ) (x : Sample) (room : List ℕ) {l : Loaded} (loaded : l ≡ loadedOf a) where
   pub sample-none : (l .answer ≡ 0 → ⊥) → (1 ≡ sampleNumber a x room) × ((a ≡ sampleArea a x room) × (room ≡ sampleRoom a x room))

@@ -15,18 +15,18 @@ use Rattle.pack.specs.declared.Pack.{Pack}
 use Rattle.pack.specs.declared.Sample.{Sample}
 use Rattle.pack.specs.declared.State.{State}
 use Rattle.pack.specs.declared.Timers.{Timers}
-use Rattle.recent.proofs.Soundness as recent
+use Rattle.seconds.proofs.After as recent
 use Rattle.recent.specs.Recent.{recentSound}
 use Rattle.tank.proofs.Charge as tank
 use Rattle.timers.specs.Countdown.{restartedOf}
 
 -- the alarms can be read at the moment of sending
-pub sendable : (p q : Pack) (x : Sample) → tankSound (p .tank) ≡ true → q ≡ movedOf p x → (tankSound (q .tank) ≡ true) × (recentSound (q .recent) ≡ true)
+pub sendable : (p q : Pack) (x : Sample) → tankSound (p .tank) ≡ true → recentSound (p .recent) ≡ true → q ≡ movedOf p x → (tankSound (q .tank) ≡ true) × (recentSound (q .recent) ≡ true)
 unfolding movedOf
-sendable p q x h e =
+sendable p q x h r e =
     let elapsed = elapsedOf (x .counter) (p .latest .counter) in
     let current = latestOf x .current in
-    (ap (λ (m : Pack). tankSound (m .tank)) e ∙ tank.after-sound (p .tank) current elapsed h, ap (λ (m : Pack). recentSound (m .recent)) e ∙ recent.after-sound (p .recent) current)
+    (ap (λ (m : Pack). tankSound (m .tank)) e ∙ tank.after-sound (p .tank) current elapsed h, ap (λ (m : Pack). recentSound (m .recent)) e ∙ recent.after-sound (p .recent) current elapsed r)
 
 pub assembled : (s : State) (x : Sample) (q : Pack) (n : ℕ) (t : Timers)
     → q ≡ movedOf (s .pack) x → n ≡ length (broadcastOf q) → t ≡ restartedOf (q .timers) (alarmGoes q) (chargerGoes q)

@@ -4,7 +4,7 @@ use Prim.Native.Nat.{ℕ, _+_, _-_, _%_, _^_}
 use Rattle.pack.specs.Kept.{latestOf}
 use Rattle.pack.specs.declared.Pack.{Pack}
 use Rattle.pack.specs.declared.Sample.{Sample}
-use Rattle.recent.specs.Recent.{recentAfter}
+use Rattle.seconds.specs.Seconds.{recentAfter}
 use Rattle.tank.specs.Charge.{tankAfter}
 use Rattle.timers.specs.Countdown.{holdAfter, hostAfter, timersAfter}
 
@@ -12,14 +12,14 @@ use Rattle.timers.specs.Countdown.{holdAfter, hostAfter, timersAfter}
 abbrev pub elapsedOf : ℕ → ℕ → ℕ
 elapsedOf new old = (new + 2 ^ 32 - old) % 2 ^ 32
 
--- the pack at the moment of sending: charge, kept samples, bit 4, countdown and timers are done (RULES 7.3 to 7.6)
+-- the pack at the moment of sending: charge, recent minute, bit 4, countdown and timers are done (RULES 7.3 to 7.6)
 unfoldable pub movedOf : Pack → Sample → Pack
 movedOf p s =
     record {
       settings = p .settings;
       host = hostAfter (p .host) (holdAfter (p .timers) (elapsedOf (s .counter) (p .latest .counter)));
       latest = latestOf s;
-      recent = recentAfter (p .recent) (latestOf s .current);
+      recent = recentAfter (p .recent) (latestOf s .current) (elapsedOf (s .counter) (p .latest .counter));
       tank = tankAfter (p .tank) (latestOf s .current) (elapsedOf (s .counter) (p .latest .counter));
       timers = timersAfter (p .timers) (p .host .ChargerMode) (elapsedOf (s .counter) (p .latest .counter));
     }

@@ -2,6 +2,7 @@
 -- Assumes nothing.
 use Prim.Native.Nat.{ℕ, _+_, _-_, _*_, _^_, _<_, min}
 use mathlib.Core.Bool.{Bool, true, false, cond}
+use mathlib.Core.Path.{_≡_}
 use native.Mathlib.Omega.{arith}
 use Rattle.capacity.specs.Capacity.{milliampMs}
 use Rattle.broadcasts.specs.Broadcasts.{alarmGoes, chargerGoes}
@@ -10,13 +11,15 @@ use Rattle.clock.specs.Sample.{elapsedOf, movedOf}
 use Rattle.clock_laws.proofs.Sound.{outcome}
 use Rattle.clock_laws.proofs.Timers.{no-more}
 use Rattle.clock_laws.specs.Promises.{SampledFits}
-use Rattle.pack.proofs.Kept.{word-fits, kept-fits}
+use Rattle.pack.proofs.Kept.{kept-fits}
+use Rattle.pack.proofs.Soundness.{parts, pack-of-sound}
 use Rattle.pack.specs.Fits.{Fits, PackFits, SampleFits, TankFit}
 use Rattle.pack.specs.Kept.{latestOf}
 use Rattle.pack.specs.declared.Pack.{Pack}
 use Rattle.pack.specs.declared.Sample.{Sample}
 use Rattle.pack.specs.declared.Tank.{Tank}
-use Rattle.recent.proofs.Fits.{after-fits}
+use Rattle.seconds.proofs.After.{after-fits}
+use Rattle.recent.specs.Recent.{recentSound}
 use Rattle.tank.specs.Charge.{tankAfter}
 use Rattle.words.specs.Words.{below, sizeOf}
 
@@ -32,9 +35,9 @@ tank-fits t current elapsed f =
       CycleCount = f .CycleCount;
     }
 
-sampled-pack : (p : Pack) (x : Sample) → PackFits p → SampleFits x → PackFits (sampledOf p x)
+sampled-pack : (p : Pack) (x : Sample) → recentSound (p .recent) ≡ true → PackFits p → SampleFits x → PackFits (sampledOf p x)
 unfolding sampledOf movedOf
-sampled-pack p x f g =
+sampled-pack p x h f g =
     let e = elapsedOf (x .counter) (p .latest .counter) in
     let t = p .timers in
     let alarm = min 10000 (t .alarm + e) in
@@ -43,7 +46,7 @@ sampled-pack p x f g =
       settings = f .settings;
       host = record { ManufacturerAccess = f .host .ManufacturerAccess; RemainingCapacityAlarm = f .host .RemainingCapacityAlarm; RemainingTimeAlarm = f .host .RemainingTimeAlarm; AtRate = f .host .AtRate };
       latest = kept-fits x g;
-      recent = after-fits (p .recent) (latestOf x .current) (word-fits (x .current) (g .current)) (f .recent);
+      recent = after-fits (p .recent) (latestOf x .current) e h (f .recent);
       tank = tank-fits (p .tank) (latestOf x .current) e (f .tank);
       timers =
           record {
@@ -55,4 +58,4 @@ sampled-pack p x f g =
 
 pub sampled-fits : SampledFits
 sampled-fits s x n f g =
-    outcome (λ r. Fits (r .state)) s x n (λ answer. f) (λ h. record { error = f .error; pack = sampled-pack (s .pack) x (f .pack) g })
+    outcome (λ r. Fits (r .state)) s x n (λ answer. f) (λ h. record { error = f .error; pack = sampled-pack (s .pack) x (parts (s .pack) (pack-of-sound s h) .recent) (f .pack) g })

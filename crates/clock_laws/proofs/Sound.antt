@@ -18,7 +18,7 @@ use Rattle.pack.specs.Kept.{latestOf}
 use Rattle.pack.specs.Sound.{soundOf}
 use Rattle.pack.specs.declared.Sample.{Sample}
 use Rattle.pack.specs.declared.State.{State}
-use Rattle.recent.proofs.Soundness as recent
+use Rattle.seconds.proofs.After as recent
 
 -- a timer that restarts where it reaches its mark stays below it
 below-mark : (b : Bool) (timer mark : ℕ) → leb mark timer ≡ b → cond b 0 timer ≤ mark - 1
@@ -55,7 +55,7 @@ sampled-sound s x h =
     (record {
       settings = f .settings;
       tank = tank.after-sound (s .pack .tank) (latestOf x .current) e (f .tank);
-      recent = recent.after-sound (s .pack .recent) (latestOf x .current);
+      recent = recent.after-sound (s .pack .recent) (latestOf x .current) e (f .recent);
       timers =
           timers-sound _ _
           (record {

@@ -2,6 +2,7 @@
 -- Assumes nothing.
 use mathlib.Core.Path.{refl}
 use Rattle.recent.specs.Recent.{averageOf, sumOf}
+use Rattle.seconds.specs.Seconds.{recentAfter}
 use Rattle.examples.specs.Examples.{examples, AsExpected}
 use Rattle.gauge.specs.Word.{wordOf}
 use Rattle.key.specs.Key.{keyOf, hexWord}
@@ -11,5 +12,5 @@ use Rattle.registers.specs.Registers.{remainingCapacity}
 use Rattle.written.specs.Written.{hostWritten, packWritten}
 
 pub twelve : AsExpected
-unfolding examples averageOf sumOf hostWritten packWritten wordOf keyOf hexWord packOf pecOf pecFrom byteStep bitStep remainingCapacity
+unfolding examples recentAfter averageOf sumOf hostWritten packWritten wordOf keyOf hexWord packOf pecOf pecFrom byteStep bitStep remainingCapacity
 twelve = refl

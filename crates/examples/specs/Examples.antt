@@ -1,13 +1,13 @@
--- Document 01's twelve worked examples: one table over the definitions that the contracts cite.
+-- Document 01's twelve worked examples, the last by R-2's rule: one table over the definitions that the contracts cite.
 -- Assumes nothing.
 use Prim.Native.Nat.{ℕ}
 use mathlib.Core.List.{List, [], _∷_, map}
 use mathlib.Core.Path.{_≡_}
 use lib.IntN.{pos, negsuc}
-use lib.ListN.{replicate}
 use mir.Syntax.{w16}
 use mir.Val.{ofZ}
-use Rattle.recent.specs.Recent.{averageOf}
+use Rattle.recent.specs.Recent.{zeroRecent, averageOf}
+use Rattle.seconds.specs.Seconds.{recentAfter}
 use Rattle.clock.specs.Sample.{elapsedOf}
 use Rattle.gauge.specs.Word.{wordOf}
 use Rattle.key.specs.Key.{keyOf, dateWord}
@@ -65,7 +65,7 @@ examples =
     ∷ number (after 0x04 (ofZ w16 (negsuc 0)) 0x06) 65534
     ∷ number (after 0x03 0x8000 0x0F) 2960
     ∷ number (elapsedOf 4 4294967290) 10
-    ∷ number (averageOf (record { currents = ofZ w16 (pos 2) ∷ ofZ w16 (negsuc 4) ∷ replicate 58 0; count = 2 })) (ofZ w16 (negsuc 0))
+    ∷ number (averageOf (recentAfter (recentAfter zeroRecent (ofZ w16 (negsuc 4)) 1000) (ofZ w16 (pos 2)) 1000) (ofZ w16 (pos 2))) (ofZ w16 (negsuc 0))
     ∷ []
 
 -- the two columns are equal

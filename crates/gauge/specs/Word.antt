@@ -3,8 +3,7 @@
 use Prim.Native.Nat.{ℕ}
 use mathlib.Core.Bool.{cond, _&&_}
 use lib.Dec.{eqb}
-use Rattle.recent.specs.Recent.{averageOf}
-use Rattle.registers.specs.Registers.{batteryMode, remainingCapacity, fullChargeCapacity, designCapacity, relativeStateOfCharge, absoluteStateOfCharge}
+use Rattle.registers.specs.Registers.{batteryMode, averageCurrent, remainingCapacity, fullChargeCapacity, designCapacity, relativeStateOfCharge, absoluteStateOfCharge}
 use Rattle.times.specs.Times.{atRateTimeToEmpty, atRateTimeToFull, atRateOK, runTimeToEmpty, averageTimeToEmpty, averageTimeToFull}
 use Rattle.alarms.specs.Alarms.{chargingCurrent}
 use Rattle.status.specs.Status.{batteryStatus}
@@ -25,7 +24,7 @@ wordOf s command =
     (cond (eqb command 0x08) (s .pack .latest .temperature)
     (cond (eqb command 0x09) (s .pack .latest .voltage)
     (cond (eqb command 0x0A) (s .pack .latest .current)
-    (cond (eqb command 0x0B) (averageOf (s .pack .recent))
+    (cond (eqb command 0x0B) (averageCurrent (s .pack))
     (cond (eqb command 0x0C) (s .pack .settings .MaxError)
     (cond (eqb command 0x0D) (relativeStateOfCharge (s .pack))
     (cond (eqb command 0x0E) (absoluteStateOfCharge (s .pack))

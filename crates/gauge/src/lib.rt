@@ -1,7 +1,6 @@
 // The word of every register, with its answer. Only our own crates call these.
 ghost use mathlib.Core.Path.{_≡_};
 ghost use mathlib.Core.Bool.{true};
-ghost use Rattle.recent.specs.Recent.{recentSound, averageOf};
 ghost use Rattle.gauge.specs.Word.{wordOf, wordAnswer, shownOf};
 ghost use Rattle.pack.specs.Sound.{soundOf};
 ghost use Rattle.registers.specs.Registers.{batteryMode};
@@ -22,15 +21,6 @@ fn mode(p: Pack) -> u16
     registers::battery_mode(host)
 }
 
-// 0B AverageCurrent.
-fn mean(p: Pack) -> u16
-    requires { ⌜ recentSound (p .recent) ≡ true ⌝ }
-    ensures { λ r. ⌜ r ≡ averageOf (p .recent) ⌝ }
-{
-    let recent = p.recent;
-    recent::average(recent)
-}
-
 // The word of a read-word command; 0 for a command that has none.
 fn word(s: State, command: u8) -> u16
     requires { ⌜ soundOf s ≡ true ⌝ }
@@ -49,7 +39,7 @@ fn word(s: State, command: u8) -> u16
         0x08 => p.latest.temperature,
         0x09 => p.latest.voltage,
         0x0A => p.latest.current,
-        0x0B => mean(p),
+        0x0B => registers::average_current(p),
         0x0C => p.settings.MaxError,
         0x0D => registers::relative_state_of_charge(p),
         0x0E => registers::absolute_state_of_charge(p),

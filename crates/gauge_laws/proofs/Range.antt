@@ -13,9 +13,8 @@ use Rattle.pack.proofs.Soundness.{parts, pack-of-sound, code-of-sound}
 use Rattle.pack.specs.declared.Host.{Host}
 use Rattle.pack.specs.declared.Pack.{Pack}
 use Rattle.recent.proofs.Bound.{average-word}
-use Rattle.recent.specs.Recent.{averageOf}
 use Rattle.registers.proofs.Laws.{remaining-at-most-full}
-use Rattle.registers.specs.Registers.{batteryMode, capacityOf, fullChargeCapacity, remainingCapacity, designCapacity}
+use Rattle.registers.specs.Registers.{batteryMode, averageCurrent, capacityOf, fullChargeCapacity, remainingCapacity, designCapacity}
 use Rattle.times.specs.Times.{minutesIf, missing, rateOf, covers}
 use Rattle.words.specs.Words.{above, below, sizeOf}
 
@@ -44,7 +43,7 @@ word-below s command h f =
     let p = s .pack in
     let rate = p .host .AtRate in
     let now = p .latest .current in
-    let mean = averageOf (p .recent) in
+    let mean = averageCurrent p in
     let full = capacity-word p (p .tank .full) (f .tank .full) in
     pick (eqb command 0x00) _ _ (f .host .ManufacturerAccess)
     (pick (eqb command 0x01) _ _ (f .host .RemainingCapacityAlarm)
@@ -57,7 +56,7 @@ word-below s command h f =
     (pick (eqb command 0x08) _ _ (f .latest .temperature)
     (pick (eqb command 0x09) _ _ (f .latest .voltage)
     (pick (eqb command 0x0A) _ _ (f .latest .current)
-    (pick (eqb command 0x0B) _ _ (average-word (p .recent))
+    (pick (eqb command 0x0B) _ _ (average-word (p .recent) now (parts p (pack-of-sound s h) .recent) (f .latest .current))
     (pick (eqb command 0x0C) _ _ (f .settings .MaxError)
     (pick (eqb command 0x0D) _ _ (omega arith)
     (pick (eqb command 0x0E) _ _ (omega arith)

@@ -3,11 +3,11 @@
 use mathlib.Core.Path.{_≡_, refl, ap, _∙_}
 use mathlib.Core.List.{List, [], _∷_}
 use Prim.Native.Nat.{ℕ, zero, suc, _+_, _-_, _*_, _/_, _%_, _^_, _≤_, _<_}
-use native.Mathlib.Nat.{pow-le-pow-right, pow-suc}
+use native.Mathlib.Nat.{pow-le-pow-right, pow-suc, add-zero, sub-zero, mul-zero, mul-suc}
 use native.Mathlib.Numerals.{add-one}
 use native.Mathlib.Omega.{arith}
-use lib.ListN.{length, getD, drop, set, replicate, length-replicate}
-use lib.Seq.{sets, drop-cons}
+use lib.ListN.{length, getD, drop, set, replicate, length-replicate, length-set, drop-of-length-le}
+use lib.Seq.{sets, drop-cons, length-sets}
 use Rattle.rooms.proofs.Rooms.{then, whole}
 use Rattle.recent.specs.Fits.{Below}
 use Rattle.numbers.specs.Numbers.{numberBytes, numbersBytes, numberAt, numbersAt}
@@ -16,7 +16,7 @@ pub bytes-length : (n v : ℕ) → length (numberBytes n v) ≡ n
 bytes-length zero v = refl
 bytes-length (suc n) v = ap suc (bytes-length n (v / 256))
 
-pub numbers-length : (widths l : List ℕ) (at : ℕ) → length (numbersAt widths l at) ≡ length widths
+numbers-length : (widths l : List ℕ) (at : ℕ) → length (numbersAt widths l at) ≡ length widths
 numbers-length [] l at = refl
 numbers-length (n ∷ widths) l at = ap suc (numbers-length widths l (at + n))
 
@@ -33,13 +33,43 @@ byte-turn part at n i left h =
     let e : at + (i + 1) ≡ suc (at + i) = omega arith in
     rw (m, e)
 
--- one number of a list more is written, of any width
-pub numbers-put-turn : (n : ℕ) (part values : List ℕ) (i p q : ℕ) → i < length values → q ≡ p + n
-    → sets (sets part p (numberBytes n (getD values i 0))) q (numbersBytes (replicate (length (drop (i + 1) values)) n) (drop (i + 1) values))
-    ≡ sets part p (numbersBytes (replicate (length (drop i values)) n) (drop i values))
-numbers-put-turn n part values i p q h e =
+-- ---- a list of numbers is written, all of one width
+
+-- a number's place, from that of the one before it
+next-place : (width at i : ℕ) → at + width * (i + 1) ≡ at + width * i + width
+next-place width at i = rw (add-one, mul-suc) (omega arith)
+
+-- one number of a list more is written
+put-turn : (width : ℕ) (part values : List ℕ) (i p q : ℕ) → i < length values → q ≡ p + width
+    → sets (sets part p (numberBytes width (getD values i 0))) q (numbersBytes (replicate (length (drop (i + 1) values)) width) (drop (i + 1) values))
+    ≡ sets part p (numbersBytes (replicate (length (drop i values)) width) (drop i values))
+put-turn width part values i p q h e =
     rw (add-one, drop-cons values i 0 h)
-    (then part p q (numberBytes n (getD values i 0)) (numbersBytes (replicate (length (drop (suc i) values)) n) (drop (suc i) values)) refl (omega (arith, bytes-length n (getD values i 0))))
+    (then part p q (numberBytes width (getD values i 0)) (numbersBytes (replicate (length (drop (suc i) values)) width) (drop (suc i) values)) refl (omega (arith, bytes-length width (getD values i 0))))
+
+-- with the first i written, the rest makes all
+abbrev pub Writing : ℕ → List ℕ → ℕ → List ℕ → List ℕ → ℕ → Type 0
+Writing width part₀ at values part i =
+    (i ≤ length values)
+    × (sets part (at + width * i) (numbersBytes (replicate (length (drop i values)) width) (drop i values)) ≡ sets part₀ at (numbersBytes (replicate (length values) width) values))
+    × (length part ≡ length part₀)
+
+pub writing-starts : (width : ℕ) (part : List ℕ) (at : ℕ) (values : List ℕ) → Writing width part at values part 0
+writing-starts width part at values = (omega arith, rw (mul-zero, add-zero), refl)
+
+pub writing-goes-on : (width : ℕ) (part₀ : List ℕ) (at : ℕ) (values part : List ℕ) (i : ℕ) {next : List ℕ} → i < length values
+    → next ≡ sets part (at + width * i) (numberBytes width (getD values i 0)) → Writing width part₀ at values part i → Writing width part₀ at values next (i + 1)
+writing-goes-on width part₀ at values part i h e w = (
+  omega arith,
+  rw e (put-turn width part values i (at + width * i) (at + width * (i + 1)) h (next-place width at i) ∙ w .1),
+  rw e (length-sets part (at + width * i) (numberBytes width (getD values i 0)) ∙ w .2),
+)
+
+pub writing-ends : (width : ℕ) (part₀ : List ℕ) (at : ℕ) (values part : List ℕ) (i : ℕ) → length values ≤ i
+    → Writing width part₀ at values part i → part ≡ sets part₀ at (numbersBytes (replicate (length values) width) values)
+writing-ends width part₀ at values part i h w = rw (drop-of-length-le values h) at (w .1)
+
+-- ---- a number is read
 
 -- one byte of a number more is read, from the last to the first
 pub read-turn : (part : List ℕ) (at n i : ℕ) {found : ℕ} → 0 < i → i ≤ n → getD part (at + (i - 1)) 0 < 256
@@ -59,14 +89,35 @@ room-left n h small =
     let most : 256 ^ n ≤ 256 ^ 7 = pow-le-pow-right (omega arith) few in
     omega arith
 
+-- ---- a list of numbers is read, all of one width
+
 -- one number of a list more is read
-pub numbers-turn : (width n : ℕ) (found part : List ℕ) (i p q : ℕ) → i < n → q ≡ p + width
+get-turn : (width n : ℕ) (found part : List ℕ) (i p q : ℕ) → i < n → q ≡ p + width
     → sets (set found i (numberAt width part p)) (i + 1) (numbersAt (replicate (n - (i + 1)) width) part q)
     ≡ sets found i (numbersAt (replicate (n - i) width) part p)
-numbers-turn width n found part i p q h e = let m : n - i ≡ suc (n - (i + 1)) = omega arith in rw (m, add-one, e)
+get-turn width n found part i p q h e = let m : n - i ≡ suc (n - (i + 1)) = omega arith in rw (m, add-one, e)
 
--- all numbers of a list are read
-pub numbers-whole : (width : ℕ) (found part : List ℕ) (at : ℕ)
-    → sets found 0 (numbersAt (replicate (length found) width) part at) ≡ numbersAt (replicate (length found) width) part at
-numbers-whole width found part at =
-    whole found (numbersAt (replicate (length found) width) part at) (numbers-length (replicate (length found) width) part at ∙ length-replicate (length found) width)
+-- with the first i read, the rest makes all
+abbrev pub Reading : ℕ → List ℕ → ℕ → List ℕ → List ℕ → ℕ → Type 0
+Reading width part at found₀ found i =
+    (i ≤ length found₀)
+    × (sets found i (numbersAt (replicate (length found₀ - i) width) part (at + width * i)) ≡ sets found₀ 0 (numbersAt (replicate (length found₀) width) part at))
+    × (length found ≡ length found₀)
+
+pub reading-starts : (width : ℕ) (part : List ℕ) (at : ℕ) (found : List ℕ) → Reading width part at found found 0
+reading-starts width part at found = (omega arith, rw (mul-zero, add-zero, sub-zero), refl)
+
+pub reading-goes-on : (width : ℕ) (part : List ℕ) (at : ℕ) (found₀ found : List ℕ) (i : ℕ) {value : ℕ} → i < length found₀
+    → value ≡ numberAt width part (at + width * i) → Reading width part at found₀ found i → Reading width part at found₀ (set found i value) (i + 1)
+reading-goes-on width part at found₀ found i h e r = (
+  omega arith,
+  rw e (get-turn width (length found₀) found part i (at + width * i) (at + width * (i + 1)) h (next-place width at i) ∙ r .1),
+  simp length-set (r .2),
+)
+
+pub reading-ends : (width : ℕ) (part : List ℕ) (at : ℕ) (found₀ found : List ℕ) (i : ℕ) → length found₀ ≤ i
+    → Reading width part at found₀ found i → found ≡ numbersAt (replicate (length found₀) width) part at
+reading-ends width part at found₀ found i h r =
+    let none : length found₀ - i ≡ 0 = omega arith in
+    let all = numbersAt (replicate (length found₀) width) part at in
+    (rw none at (r .1)) ∙ whole found₀ all (numbers-length (replicate (length found₀) width) part at ∙ length-replicate (length found₀) width)

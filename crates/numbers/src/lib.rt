@@ -33,6 +33,19 @@ pub fn put_words(part: &mut [u8], at: usize, words: &[u16])
     }
 }
 
+// Numbers of 4 bytes from a place on.
+pub fn put_longs(part: &mut [u8], at: usize, longs: &[u32])
+    requires { ⌜ at + 4 * length (now longs) ≤ length (now part) ⌝ }
+    ensures memory { λ _. ⌜ now (part .exit) ≡ sets (now (part .entry)) at (numbersBytes (replicate (length (now (longs .entry))) 4) (now (longs .entry))) ⌝ }
+    ensures fit { λ _. ⌜ Below (2 ^ 32) (now (longs .entry)) ⌝ }
+{
+    let mut i = 0;
+    while i < longs.len() {
+        put_number(part, at + 4 * i, 4, longs[i] as u64);
+        i += 1;
+    }
+}
+
 // A number of at most 8 bytes at a place.
 pub fn number_at(part: &[u8], at: usize, n: usize) -> u64
     requires { ⌜ (at + n ≤ length (now part)) × (n ≤ 8) ⌝ }
@@ -76,6 +89,18 @@ pub fn words_at(part: &[u8], at: usize, words: &mut [u16])
     let mut i = 0;
     while i < words.len() {
         words[i] = word_at(part, at + 2 * i);
+        i += 1;
+    }
+}
+
+// As many numbers of 4 bytes as asked for, from a place on.
+pub fn longs_at(part: &[u8], at: usize, longs: &mut [u32])
+    requires { ⌜ at + 4 * length (now longs) ≤ length (now part) ⌝ }
+    ensures { λ _. ⌜ now (longs .exit) ≡ numbersAt (replicate (length (now (longs .entry))) 4) (now (part .entry)) at ⌝ }
+{
+    let mut i = 0;
+    while i < longs.len() {
+        longs[i] = long_at(part, at + 4 * i);
         i += 1;
     }
 }

@@ -102,7 +102,7 @@ pub pack-sound : (p : Pack) → SoundParts p → packSound p ≡ true
 unfolding packSound
 pack-sound p f = simp (f .settings, f .tank, f .recent, f .timers)
 
--- a sound state's pack is sound, its error code at most 7, its count of samples at most 60; and back
+-- a sound state's pack is sound, its error code at most 7, its count of seconds at most 60; and back
 pub pack-of-sound : (s : State) → soundOf s ≡ true → packSound (s .pack) ≡ true
 unfolding soundOf
 pack-of-sound s h = and-eq-true-iff _ _ .0 h .0

@@ -37,7 +37,7 @@ timersSound h t =
 unfoldable pub errorSound : ℕ → Bool
 errorSound code = leb code 7
 
--- all but the error code is sound; 1 to 60 samples are kept (recentSound) (RULES 3.3)
+-- all but the error code is sound (RULES 3.1 to 3.6)
 unfoldable pub packSound : Pack → Bool
 packSound p =
     settingsSound (p .settings) && tankSound (p .tank) && recentSound (p .recent) && timersSound (p .host) (p .timers)

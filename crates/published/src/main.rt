@@ -82,8 +82,8 @@ fn packets() {
 
 // ---- the pack
 
-// 2,000 of 4,000 mAh left, 14,800 mV, made on 15 March 2021, serial 17, with a first current.
-fn half_full(current: i16) -> State {
+// 2,000 of 4,000 mAh left, 14,800 mV, made on 15 March 2021, serial 17.
+fn half_full() -> State {
     let setup = Setup {
         DesignCapacity: 4000,
         full: 4000,
@@ -100,7 +100,7 @@ fn half_full(current: i16) -> State {
     };
     let first = Sample {
         voltage: 14800,
-        current: current,
+        current: 0,
         temperature: 0,
         counter: 0,
     };
@@ -125,7 +125,7 @@ fn word_of(s: State, command: u8) -> usize {
 // The word that a command shows after a write.
 fn after(write: &[u8], command: u8) -> usize {
     let mut room = [0u8; 34];
-    let wrote = call(half_full(0), false, write, &mut room);
+    let wrote = call(half_full(), false, write, &mut room);
     word_of(wrote.state, command)
 }
 
@@ -133,7 +133,7 @@ fn after(write: &[u8], command: u8) -> usize {
 
 fn answer(read: bool, bytes: &[u8]) -> usize {
     let mut room = [0u8; 34];
-    let out = call(half_full(0), read, bytes, &mut room);
+    let out = call(half_full(), read, bytes, &mut room);
     wide(out.answer)
 }
 
@@ -183,7 +183,7 @@ fn rows() {
 
 fn word(label: &[u8], command: u8) {
     text(label);
-    hex(word_of(half_full(0), command), 4);
+    hex(word_of(half_full(), command), 4);
     text(b"\n");
 }
 
@@ -209,7 +209,7 @@ fn number(label: &[u8], n: usize) {
 
 // The date that the pack shows, taken apart as 002 packs it: day, month, year.
 fn date(label: &[u8]) {
-    let shown = word_of(half_full(0), 0x1B);
+    let shown = word_of(half_full(), 0x1B);
     text(label);
     decimal(shown % 32);
     text(b" ");
@@ -233,17 +233,23 @@ fn key_of(label: &[u8]) {
     text(b"\n");
 }
 
-// The mean of -5 and 2, as the word that AverageCurrent shows.
-fn mean() -> usize {
+// The state after a current flowed up to a reading of the counter.
+fn sampled(s: State, current: i16, counter: u32) -> State {
     let mut room = [0u8; 16];
     let next = Sample {
         voltage: 14800,
-        current: 2,
+        current: current,
         temperature: 0,
-        counter: 0,
+        counter: counter,
     };
-    let sampled = clock::sample(half_full(-5), next, &mut room);
-    word_of(sampled.state, 0x0B)
+    clock::sample(s, next, &mut room).state
+}
+
+// Seconds of -5 and 2 mA, as the word that AverageCurrent shows.
+fn average() -> usize {
+    let first = sampled(half_full(), -5, 1000);
+    let second = sampled(first, 2, 2000);
+    word_of(second, 0x0B)
 }
 
 fn elapsed() -> usize {
@@ -263,7 +269,7 @@ fn numbers() {
     number(b"example 9: ", after(b"\x16\x04\xff\xff", 0x06));
     number(b"example 10: ", after(b"\x16\x03\x00\x80", 0x0F));
     number(b"example 11: ", elapsed());
-    number(b"example 12: ", mean());
+    number(b"example 12: ", average());
 }
 
 fn main() {

@@ -7,9 +7,9 @@ use native.Mathlib.Nat.{mul-comm, div-le-of-le-mul}
 use borrow.Author.Tests.{lt-ltb, le-ltb}
 use lib.IntN.{ℤ, pos, negsuc, negℤ, subℕ, _+ℤ_}
 use lib.Signed.{quotZ}
-use mir.Syntax.{w16}
+use mir.Syntax.{w16, w32}
 use mir.Val.{toZ, ofZ}
-use Rattle.words.proofs.Integers.{split, low, high}
+use Rattle.words.proofs.Integers.{split}
 
 -- a difference below 0, and one of 0 or above
 pub sub-lt : (x y : ℕ) → x < y → subℕ x y ≡ negsuc (y - suc x)
@@ -33,20 +33,28 @@ add-neg a b k =
     split a b (λ h. ap (λ (z : ℤ). z +ℤ negsuc k) (sub-lt a b h) ∙ ap negsuc (omega arith) ∙ sym (sub-lt a (b + suc k) (omega arith)))
     (λ h. ap (λ (z : ℤ). z +ℤ negsuc k) (sub-ge a b h) ∙ sub-eq (a - b) (suc k) a (b + suc k) (omega arith))
 
--- a word below 32,768 comes in
-pub add-in : (a b w : ℕ) → w < 32768 → subℕ (a + w) b ≡ subℕ a b +ℤ toZ w16 w
-add-in a b w h = sym (ap (λ (z : ℤ). subℕ a b +ℤ z) (low w h) ∙ add-pos a b w)
+-- a total below 2^31 stands for itself
+pub low32 : (t : ℕ) → t < 2147483648 → toZ w32 t ≡ pos t
+low32 t h = simp (lt-ltb t 2147483648 h)
 
--- any other goes out, as 65,536 minus it
-pub add-out : (a b w : ℕ) → 32768 ≤ w → w < 65536 → subℕ a (b + (65536 - w)) ≡ subℕ a b +ℤ toZ w16 w
-add-out a b w h l =
+-- any other stands for 2^32 less
+pub high32 : (t : ℕ) → 2147483648 ≤ t → toZ w32 t ≡ negsuc (4294967296 - suc t)
+high32 t h = simp (le-ltb t 2147483648 h)
+
+-- a total of 0 or above comes in
+pub add-in : (a b t : ℕ) → t < 2147483648 → subℕ (a + t) b ≡ subℕ a b +ℤ toZ w32 t
+add-in a b t h = sym (ap (λ (z : ℤ). subℕ a b +ℤ z) (low32 t h) ∙ add-pos a b t)
+
+-- any other goes out, as 2^32 minus it
+pub add-out : (a b t : ℕ) → 2147483648 ≤ t → t < 4294967296 → subℕ a (b + (4294967295 - t) + 1) ≡ subℕ a b +ℤ toZ w32 t
+add-out a b t h l =
     sym
-    (ap (λ (z : ℤ). subℕ a b +ℤ z) (high w h) ∙ add-neg a b (65536 - suc w)
-    ∙ sub-eq a (b + suc (65536 - suc w)) a (b + (65536 - w)) (omega arith))
+    (ap (λ (z : ℤ). subℕ a b +ℤ z) (high32 t h) ∙ add-neg a b (4294967296 - suc t)
+    ∙ sub-eq a (b + suc (4294967296 - suc t)) a (b + (4294967295 - t) + 1) (omega arith))
 
--- a sum of n sizes, over n
-pub over : (x n : ℕ) → x ≤ 32768 * n → x / n ≤ 32768
-over x n h = div-le-of-le-mul n (omega (arith, mul-comm 32768 n))
+-- a sum of n numbers, over n
+pub over : (most x n : ℕ) → x ≤ most * n → x / n ≤ most
+over most x n h = div-le-of-le-mul n (omega (arith, mul-comm most n))
 
 -- the word of a quotient of 0 or above
 pub word-up : (ins outs n : ℕ) → outs ≤ ins → (ins - outs) / n ≡ ofZ w16 (quotZ (subℕ ins outs) (pos n))

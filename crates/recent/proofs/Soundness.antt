@@ -1,26 +1,24 @@
--- What the test of the recent currents says, fact by fact, and back; a first sample and one more keep it.
+-- What the test of the recent minute says, fact by fact, and back; set-up's passes it.
 -- Assumes nothing.
-use Prim.Native.Nat.{ℕ}
 use mathlib.Core.Bool.{true, and-eq-true-iff}
 use mathlib.Core.Path.{_≡_, refl}
-use native.Mathlib.Omega.{arith}
-use borrow.Author.Tests.{le-leb, leb-true}
-use Rattle.recent.specs.Recent.{recentSound, RecentFacts, startedOf, recentAfter}
+use borrow.Author.Tests.{le-leb, leb-true, lt-ltb, ltb-true}
+use Rattle.recent.specs.Recent.{recentSound, RecentFacts, zeroRecent, totalsSound}
 use Rattle.recent.specs.declared.Recent.{Recent}
 
 pub recent-facts : (r : Recent) → recentSound r ≡ true → RecentFacts r
 unfolding recentSound
-recent-facts r h = let b = and-eq-true-iff _ _ .0 h in record { some = leb-true _ _ (b .0); most = leb-true _ _ (b .1) }
+recent-facts r h =
+    let a = and-eq-true-iff _ _ .0 h in
+    let b = and-eq-true-iff _ _ .0 (a .0) in
+    let c = and-eq-true-iff _ _ .0 (b .0) in
+    record { most = leb-true _ _ (c .0); begun = ltb-true _ _ (c .1); totals = b .1; total = a .1 }
 
 pub recent-sound : (r : Recent) → RecentFacts r → recentSound r ≡ true
 unfolding recentSound
-recent-sound r f = rw (le-leb _ _ (f .some), le-leb _ _ (f .most))
+recent-sound r f = rw (le-leb _ _ (f .most), lt-ltb _ _ (f .begun), f .totals, f .total)
 
--- set-up's first sample
-pub started-sound : (current : ℕ) → recentSound (startedOf current) ≡ true
-unfolding recentSound
-started-sound current = refl
-
--- one more sample, whatever was kept
-pub after-sound : (r : Recent) (current : ℕ) → recentSound (recentAfter r current) ≡ true
-after-sound r current = recent-sound (recentAfter r current) (record { some = omega arith; most = omega arith })
+-- none complete, none begun
+pub zero-sound : recentSound zeroRecent ≡ true
+unfolding recentSound totalsSound
+zero-sound = refl

@@ -1,10 +1,10 @@
--- What the types of the recent currents' fields let them hold.
+-- What the types of the recent minute's fields let them hold.
 -- Assumes nothing.
 use Prim.Native.Nat.{ℕ, _^_, _<_}
 use mathlib.Core.List.{List, [], _∷_}
 use mathlib.Core.Path.{_≡_}
 use lib.ListN.{length}
-use Rattle.recent.specs.Recent.{zeroRecent, startedOf, recentAfter}
+use Rattle.recent.specs.Recent.{zeroRecent}
 use Rattle.recent.specs.declared.Recent.{Recent}
 
 -- each is below a bound
@@ -13,17 +13,13 @@ Below bound [] = Unit
 Below bound (x ∷ xs) = (x < bound) × Below bound xs
 
 pub record RecentFit (r : Recent) : Type 0 where
-  pub sixty : length (r .currents) ≡ 60
-  pub currents : Below 65536 (r .currents)
+  pub sixty : length (r .totals) ≡ 60
+  pub totals : Below (2 ^ 32) (r .totals)
   pub count : r .count < 2 ^ 64
+  pub begun : r .begun < 65536
+  pub total : r .total < 2 ^ 32
 
--- ---- promised: what set-up and samples of words make fits
+-- ---- promised: what set-up makes fits
 
 abbrev pub ZeroRecentFits : Type 0
 ZeroRecentFits = RecentFit zeroRecent
-
-abbrev pub StartedFits : Type 0
-StartedFits = (current : ℕ) → current < 65536 → RecentFit (startedOf current)
-
-abbrev pub AfterFits : Type 0
-AfterFits = (r : Recent) (current : ℕ) → current < 65536 → RecentFit r → RecentFit (recentAfter r current)

@@ -1,42 +1,56 @@
--- Document 01, Registers: the recent currents. Set-up counts as the first sample; register 0B is the mean of the last 60 samples.
+-- Document 02, R-2: the recent minute. Kept are the totals of the last 60 complete seconds since set-up, in mA·ms as signed 32-bit numbers, and of the begun one.
+-- (What a sample makes of it is `seconds`; that register 0B is so the rule's average of all milliseconds since set-up, `recent_laws` and `runs`.)
 -- Assumes nothing.
-use Prim.Native.Nat.{ℕ, zero, suc, _+_, _≤_, min}
-use mathlib.Core.Bool.{Bool, _&&_}
-use mathlib.Core.List.{List, _∷_}
-use lib.Dec.{leb}
-use lib.IntN.{ℤ, pos, _+ℤ_}
-use lib.ListN.{getD, replicate, set, take}
-use lib.Signed.{quotZ}
-use mir.Syntax.{w16}
+use Prim.Native.Nat.{ℕ, zero, suc, _*_, _<_, _≤_}
+use mathlib.Core.Bool.{Bool, true, cond, _&&_}
+use mathlib.Core.List.{List, [], _∷_}
+use mathlib.Core.Path.{_≡_}
+use lib.Dec.{eqb, leb, ltb}
+use lib.IntN.{ℤ, pos, negℤ, _+ℤ_}
+use lib.ListN.{getD, replicate, take}
+use lib.Signed.{leZ, quotZ}
+use mir.Syntax.{w16, w32}
 use mir.Val.{toZ, ofZ}
 use Rattle.recent.specs.declared.Recent.{Recent}
 
--- none yet, as in the all-zero state (RULES 1.11)
+-- none complete, none begun: set-up's, and the all-zero state's (RULES 1.11, 3.10)
 abbrev pub zeroRecent : Recent
-zeroRecent = record { currents = replicate 60 0; count = 0 }
+zeroRecent = record { totals = replicate 60 0; count = 0; begun = 0; total = 0 }
 
--- set-up counts as the first sample (RULES 6.10)
-abbrev pub startedOf : ℕ → Recent
-startedOf current = record { currents = set (replicate 60 0) 0 current; count = 1 }
+-- ---- sound
 
--- the newest sample first, at most 60 (RULES 7.4)
-abbrev pub recentAfter : Recent → ℕ → Recent
-recentAfter r current = record { currents = current ∷ take 59 (r .currents); count = min 60 (r .count + 1) }
+-- what signed 16-bit currents can give in so many milliseconds: −32,768 to 32,767 for each
+abbrev pub canGive : ℕ → ℤ → Bool
+canGive ms z = leZ (negℤ (pos (32768 * ms))) z && leZ z (pos (32767 * ms))
 
--- 1 to 60 samples are kept (RULES 3.3)
+-- the total of so many milliseconds is such a number
+abbrev pub totalSound : ℕ → ℕ → Bool
+totalSound ms total = canGive ms (toZ w32 total)
+
+-- each is the total of a second
+unfoldable pub totalsSound : List ℕ → Bool
+totalsSound [] = true
+totalsSound (t ∷ ts) = totalSound 1000 t && totalsSound ts
+
+-- 0 to 60 complete seconds and a begun one under 1,000 ms, each with a total that signed 16-bit currents can give in its length (RULES 3.3)
 unfoldable pub recentSound : Recent → Bool
-recentSound r = leb 1 (r .count) && leb (r .count) 60
+recentSound r =
+    leb (r .count) 60 && ltb (r .begun) 1000 && totalsSound (take (r .count) (r .totals)) && totalSound (r .begun) (r .total)
 
 -- the same, fact by fact
 pub record RecentFacts (r : Recent) : Type 0 where
-  pub some : 1 ≤ r .count
   pub most : r .count ≤ 60
+  pub begun : r .begun < 1000
+  pub totals : totalsSound (take (r .count) (r .totals)) ≡ true
+  pub total : totalSound (r .begun) (r .total) ≡ true
 
--- the sum of the first n words, each read as a signed number
+-- ---- AverageCurrent
+
+-- the sum of the first n totals
 unfoldable pub sumOf : List ℕ → ℕ → ℤ
-sumOf words zero = pos 0
-sumOf words (suc n) = sumOf words n +ℤ toZ w16 (getD words n 0)
+sumOf totals zero = pos 0
+sumOf totals (suc n) = sumOf totals n +ℤ toZ w32 (getD totals n 0)
 
--- 0B AverageCurrent: the mean of the kept samples, cut toward zero (RULES 6.10)
-unfoldable pub averageOf : Recent → ℕ
-averageOf r = ofZ w16 (quotZ (sumOf (r .currents) (r .count)) (pos (r .count)))
+-- 0B: the total over the complete seconds divided by their length, cut toward zero; with none, the latest current (RULES 6.10)
+unfoldable pub averageOf : Recent → ℕ → ℕ
+averageOf r latest = cond (eqb (r .count) 0) latest (ofZ w16 (quotZ (sumOf (r .totals) (r .count)) (pos (1000 * r .count))))

@@ -1,81 +1,70 @@
-// The recent currents: what set-up and a sample make of them, and their mean.
+// The recent minute: what set-up begins it with, when it is sound, and its average. (What a sample makes of it is `seconds`.)
 ghost use mathlib.Core.Path.{_≡_};
 ghost use mathlib.Core.Bool.{true};
-ghost use mathlib.Core.List.{_∷_};
-ghost use Prim.Native.Nat.{_+_, _*_, _≤_, _<_, min};
+ghost use Prim.Native.Nat.{_+_, _*_, _≤_, _<_};
 ghost use lib.IntN.{pos, subℕ, _+ℤ_};
 ghost use lib.ListN.{take};
 ghost use lib.Signed.{quotZ};
-ghost use mir.Syntax.{w16};
+ghost use mir.Syntax.{w16, w32};
 ghost use mir.Val.{toZ, ofZ};
-ghost use Rattle.recent.specs.Recent.{zeroRecent, startedOf, recentAfter, recentSound, sumOf, averageOf};
+ghost use Rattle.recent.specs.Recent.{zeroRecent, totalSound, totalsSound, recentSound, sumOf, averageOf};
 
-// The currents of the kept samples as words: the newest first, as many as count says.
+// The totals of complete seconds as 32-bit words: the newest first, as many as count says; the begun second's milliseconds and total.
 pub struct Recent {
-    pub currents: [u16; 60],
+    pub totals: [u32; 60],
     pub count: usize,
+    pub begun: u16,
+    pub total: u32,
 }
 
-// None yet, as in the all-zero state.
+// None complete, none begun: at set-up, and in the all-zero state.
 pub fn zero() -> Recent
     ensures { λ r. ⌜ r ≡ zeroRecent ⌝ }
 {
-    let currents = [0u16; 60];
+    let totals = [0u32; 60];
     Recent {
-        currents: currents,
+        totals: totals,
         count: 0,
+        begun: 0,
+        total: 0,
     }
 }
 
-// Set-up counts as the first sample.
-pub fn started(current: u16) -> Recent
-    ensures { λ r. ⌜ r ≡ startedOf current ⌝ }
+// Whether signed 16-bit currents can give a total in so many milliseconds.
+fn total_sound(ms: u32, total: u32) -> bool
+    requires { ⌜ ms ≤ 1000 ⌝ }
+    ensures { λ b. ⌜ b ≡ totalSound ms total ⌝ }
 {
-    let mut currents = [0u16; 60];
-    currents[0] = current;
-    Recent {
-        currents: currents,
-        count: 1,
-    }
+    let raised = std::num::wrapping_add_u32(total, 32768 * ms);
+    raised <= 65535 * ms
 }
 
-// Every kept sample moves one place on, and the newest stands first.
-fn shifted(old: [u16; 60], current: u16) -> [u16; 60]
-    ensures { λ r. ⌜ r ≡ current ∷ take 59 old ⌝ }
+fn totals_sound(totals: [u32; 60], count: usize) -> bool
+    requires { ⌜ count ≤ 60 ⌝ }
+    ensures { λ b. ⌜ b ≡ totalsSound (take count totals) ⌝ }
 {
-    let mut currents = [current; 60];
-    let mut i: usize = 1;
-    while i < 60 {
-        currents[i] = old[i - 1];
+    let mut all = true;
+    let mut i: usize = 0;
+    while i < count {
+        let one = total_sound(1000, totals[i]);
+        all = all & one;
         i = i + 1;
     }
-    currents
+    all
 }
 
-fn more(count: usize) -> usize
-    ensures { λ r. ⌜ r ≡ min 60 (count + 1) ⌝ }
-{
-    if count < 60 { count + 1 } else { 60 }
-}
-
-// A sample more.
-pub fn sampled(r: Recent, current: u16) -> Recent
-    ensures { λ q. ⌜ q ≡ recentAfter r current ⌝ }
-{
-    let old = r.currents;
-    let currents = shifted(old, current);
-    let count = more(r.count);
-    Recent {
-        currents: currents,
-        count: count,
-    }
-}
-
-// Whether 1 to 60 samples are kept.
+// Whether 0 to 60 complete seconds are kept and one under 1,000 ms is begun, each with a total that currents can give.
 pub fn sound(r: Recent) -> bool
     ensures { λ b. ⌜ b ≡ recentSound r ⌝ }
 {
-    (1 <= r.count) & (r.count <= 60)
+    if 60 < r.count {
+        return false;
+    }
+    if 1000 <= r.begun {
+        return false;
+    }
+    let totals = r.totals;
+    totals_sound(totals, r.count) & total_sound(r.begun as u32, r.total)
 }
 
 // A signed sum as what came in and what went out.
@@ -84,19 +73,18 @@ struct Net {
     outs: u32,
 }
 
-// A word joins the sum.
-fn added(s: Net, w: u16) -> Net
-    requires { ⌜ (s .ins ≤ 32768 * 60) × (s .outs ≤ 32768 * 60) ⌝ }
-    ensures is { λ r. ⌜ subℕ (r .ins) (r .outs) ≡ subℕ (s .ins) (s .outs) +ℤ toZ w16 w ⌝ }
-    ensures small { λ r. ⌜ (r .ins ≤ s .ins + 32768) × (r .outs ≤ s .outs + 32768) ⌝ }
+// A second's total joins the sum.
+fn added(s: Net, total: u32) -> Net
+    requires { ⌜ (s .ins ≤ 32768000 * 60) × (s .outs ≤ 32768000 * 60) × (totalSound 1000 total ≡ true) ⌝ }
+    ensures is { λ r. ⌜ subℕ (r .ins) (r .outs) ≡ subℕ (s .ins) (s .outs) +ℤ toZ w32 total ⌝ }
+    ensures small { λ r. ⌜ (r .ins ≤ s .ins + 32768000) × (r .outs ≤ s .outs + 32768000) ⌝ }
 {
-    let x = w as u32;
     let mut ins = s.ins;
     let mut outs = s.outs;
-    if w < 32768 {
-        ins = ins + x;
+    if total < 2147483648 {
+        ins = ins + total;
     } else {
-        outs = outs + (65536 - x);
+        outs = outs + (4294967295 - total) + 1;
     }
     Net {
         ins: ins,
@@ -104,17 +92,17 @@ fn added(s: Net, w: u16) -> Net
     }
 }
 
-// The sum of the first words.
-fn summed(currents: [u16; 60], count: usize) -> Net
-    requires { ⌜ count ≤ 60 ⌝ }
-    ensures is { λ s. ⌜ subℕ (s .ins) (s .outs) ≡ sumOf currents count ⌝ }
-    ensures small { λ s. ⌜ (s .ins ≤ 32768 * count) × (s .outs ≤ 32768 * count) ⌝ }
+// The sum of the first totals.
+fn summed(totals: [u32; 60], count: usize) -> Net
+    requires { ⌜ (count ≤ 60) × (totalsSound (take count totals) ≡ true) ⌝ }
+    ensures is { λ s. ⌜ subℕ (s .ins) (s .outs) ≡ sumOf totals count ⌝ }
+    ensures small { λ s. ⌜ (s .ins ≤ 32768000 * count) × (s .outs ≤ 32768000 * count) ⌝ }
 {
     let mut s = Net { ins: 0, outs: 0 };
     let mut i: usize = 0;
     while i < count {
-        let w = currents[i];
-        s = added(s, w);
+        let total = totals[i];
+        s = added(s, total);
         i = i + 1;
     }
     s
@@ -134,13 +122,16 @@ fn divided(s: Net, n: u32) -> u16
     }
 }
 
-// AverageCurrent, of the 1 to 60 samples that a sound state keeps.
-pub fn average(r: Recent) -> u16
+// AverageCurrent: over the complete seconds that are kept; with none, the latest current.
+pub fn average(r: Recent, latest: u16) -> u16
     requires { ⌜ recentSound r ≡ true ⌝ }
-    ensures { λ w. ⌜ w ≡ averageOf r ⌝ }
+    ensures { λ w. ⌜ w ≡ averageOf r latest ⌝ }
 {
-    let currents = r.currents;
     let count = r.count;
-    let s = summed(currents, count);
-    divided(s, count as u32)
+    if count == 0 {
+        return latest;
+    }
+    let totals = r.totals;
+    let s = summed(totals, count);
+    divided(s, 1000 * (count as u32))
 }

@@ -1,9 +1,10 @@
--- Document 01, Registers: the words of modes, capacities and percents, each a function of the pack without its error code.
+-- Document 01, Registers: the words of modes, average, capacities and percents, each a function of the pack without its error code.
 -- Assumes nothing.
 use Prim.Native.Nat.{ℕ, _+_, _/_, _^_}
 use mathlib.Core.Bool.{Bool, cond}
 use Rattle.pack.specs.declared.Host.{Host}
 use Rattle.pack.specs.declared.Pack.{Pack}
+use Rattle.recent.specs.Recent.{averageOf}
 use Rattle.capacity.specs.Capacity.{powerOf, energyOf, cappedWord, percentOf, relativeOf}
 
 -- what bit k adds to a word
@@ -13,6 +14,10 @@ bit k on = cond on (2 ^ k) 0
 -- 03 BatteryMode: bits 13 ALARM_MODE, 14 CHARGER_MODE, 15 CAPACITY_MODE; others read 0 (RULES 6.3)
 abbrev pub batteryMode : Host → ℕ
 batteryMode h = bit 13 (h .AlarmMode) + bit 14 (h .ChargerMode) + bit 15 (h .CapacityMode)
+
+-- 0B AverageCurrent (RULES 6.10)
+abbrev pub averageCurrent : Pack → ℕ
+averageCurrent p = averageOf (p .recent) (p .latest .current)
 
 -- a capacity as 10 and 18 show it: whole mAh; in power mode 10 mWh, capped at 65,535 (RULES 6.14, 6.15)
 abbrev pub capacityOf : Pack → ℕ → ℕ

@@ -1,8 +1,9 @@
-// The words of modes, capacities and percents: pure functions of the pack. Only our own crates call these.
+// The words of modes, average, capacities and percents: pure functions of the pack. Only our own crates call these.
 ghost use mathlib.Core.Path.{_≡_};
 ghost use mathlib.Core.Bool.{true, cond};
 ghost use Prim.Native.Nat.{_≤_};
-ghost use Rattle.registers.specs.Registers.{batteryMode, capacityOf, remainingCapacity, fullChargeCapacity, designCapacity, relativeStateOfCharge, absoluteStateOfCharge};
+ghost use Rattle.registers.specs.Registers.{batteryMode, averageCurrent, capacityOf, remainingCapacity, fullChargeCapacity, designCapacity, relativeStateOfCharge, absoluteStateOfCharge};
+ghost use Rattle.recent.specs.Recent.{recentSound};
 ghost use Rattle.pack.specs.Sound.{settingsSound, tankSound};
 use pack::Host;
 use pack::Pack;
@@ -20,6 +21,15 @@ pub fn battery_mode(h: Host) -> u16
     ensures { λ r. ⌜ r ≡ batteryMode h ⌝ }
 {
     flag(h.AlarmMode, 8192) + flag(h.ChargerMode, 16384) + flag(h.CapacityMode, 32768)
+}
+
+// 0B AverageCurrent.
+pub fn average_current(p: Pack) -> u16
+    requires { ⌜ recentSound (p .recent) ≡ true ⌝ }
+    ensures { λ r. ⌜ r ≡ averageCurrent p ⌝ }
+{
+    let recent = p.recent;
+    recent::average(recent, p.latest.current)
 }
 
 // A capacity in mAh, in power mode in 10 mWh.

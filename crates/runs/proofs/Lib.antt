@@ -1,5 +1,6 @@
 pub mod Histories
 pub mod Measures
+pub mod Minute
 pub mod Rest
 pub mod Fits
 pub mod Alarms

@@ -1,14 +1,12 @@
--- Time, latest sample, kept samples and charge depend on the accepted samples only.
+-- Time, latest sample, recent minute and charge depend on the accepted samples only.
 -- Assumes nothing.
-use Prim.Native.Nat.{ℕ, suc, _+_, _-_, _%_, _^_, _≤_, min}
+use Prim.Native.Nat.{ℕ, _+_, _-_, _%_, _^_, _≤_}
 use mathlib.Core.Bool.{Bool, true, false, cond}
 use mathlib.Core.List.{List, [], _∷_, _++_}
 use mathlib.Core.Path.{_≡_, refl, sym, ap, ap₂, _∙_, subst}
 use native.Mathlib.Omega.{arith}
 use lib.Dec.{eqb}
 use lib.IntN.{ℤ, pos}
-use lib.ListN.{take, length-take}
-use lib.Seq.{take-take, take-all}
 use Rattle.tank.proofs.Charge.{charge-held}
 use Rattle.clock.specs.Broadcast.{sampledOf}
 use Rattle.clock.specs.Sample.{elapsedOf, movedOf}
@@ -26,9 +24,8 @@ use Rattle.pack.specs.declared.State.{State}
 use Rattle.runs.proofs.Histories.{seen-through, still-keeps, tank-of}
 use Rattle.runs.specs.Events.{Event, sample, step, run, acceptedOf, timeOf}
 use Rattle.runs.specs.Histories.{History, done, still-then, took-then}
-use Rattle.runs.specs.Promises.{TimeTrue, MeasuresOfAccepted, KeptSinceSetUp, ChargeFrom, ChargeSinceSetUp}
-use Rattle.runs.specs.Since.{fromSetUp, Measures, measuresOf, measuresAfter, samplesOf, currentsOf, Signed16, chargeOver, Counted}
-use Rattle.words.proofs.Integers.{split}
+use Rattle.runs.specs.Promises.{TimeTrue, MeasuresOfAccepted, ChargeFrom, ChargeSinceSetUp}
+use Rattle.runs.specs.Since.{fromSetUp, Measures, measuresOf, measuresAfter, Signed16, chargeOver, Counted}
 use Rattle.capacity.specs.Capacity.{milliampMs}
 use Rattle.written.specs.Written.{packWritten}
 
@@ -95,32 +92,6 @@ set-up-pack u first = go (setUpRefused u)
     go : (b : Bool) → started b .answer ≡ 0 → started b .state .pack ≡ packOf u first
     go true a = absurd (omega (arith, a))
     go false a = refl
-
-shorter : (m n : ℕ) (l : List ℕ) → take m (take n l) ≡ take (min m n) l
-shorter m n l =
-    split m n (λ h. let e : m ≡ min m n = omega arith in take-take m n l (omega arith) ∙ ap (λ (k : ℕ). take k l) e)
-    (λ h. let e : n ≡ min m n = omega arith in take-all m (take n l) (omega (arith, length-take n l)) ∙ ap (λ (k : ℕ). take k l) e)
-
--- one more sample before those kept
-newest : (n c : ℕ) (kept all : List ℕ) → take n kept ≡ take 60 all → take (min 60 (n + 1)) (c ∷ take 59 kept) ≡ take 60 (c ∷ all)
-newest n c kept all e =
-    let one : min 60 (n + 1) ≡ suc (min 59 n) = omega arith in
-    let same : min (min 59 n) 59 ≡ min 59 n = omega arith in
-    ap (λ (k : ℕ). take k (c ∷ take 59 kept)) one
-    ∙ ap (λ (l : List ℕ). c ∷ l)
-    (shorter (min 59 n) 59 kept ∙ ap (λ (k : ℕ). take k kept) same ∙ sym (shorter 59 n kept) ∙ ap (take 59) e ∙ take-take 59 60 all (omega arith))
-
-kept-after : (m : Measures) (xs : List Sample) (all : List ℕ) → samplesOf (m .recent) ≡ take 60 all
-    → samplesOf (measuresAfter m xs .recent) ≡ take 60 (currentsOf all xs)
-kept-after m [] all e = e
-kept-after m (x ∷ xs) all e = kept-after _ xs (latestOf x .current ∷ all) (newest (m .recent .count) (latestOf x .current) (m .recent .currents) all e)
-
-pub kept-since-set-up : KeptSinceSetUp
-unfolding packOf
-kept-since-set-up u first es a =
-    let s = fromSetUp u first in
-    ap (λ (m : Measures). samplesOf (m .recent)) (measures-of-accepted s es (set-up-sound u first a))
-    ∙ kept-after (measuresOf (s .pack)) (acceptedOf s es) (latestOf first .current ∷ []) (ap (λ (p : Pack). samplesOf (p .recent)) (set-up-pack u first a))
 
 charge-after : (m : Measures) (xs : List Sample) → m .tank .charge ≤ milliampMs (m .tank .full) → Signed16 xs
     → pos (measuresAfter m xs .tank .charge) ≡ chargeOver (m .tank .full) (pos (m .tank .charge)) (m .latest .counter) xs

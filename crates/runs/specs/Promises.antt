@@ -6,6 +6,8 @@ use mathlib.Core.List.{List, [], _∷_, _++_}
 use mathlib.Core.Path.{_≡_}
 use lib.IntN.{pos}
 use lib.ListN.{length, take}
+use mir.Syntax.{w16}
+use mir.Val.{toZ}
 use Rattle.bus_laws.specs.Calls.{Call, answer, reply, Reads, keptWord, Exchanged}
 use Rattle.broadcasts.specs.Broadcasts.{alarmGoes, chargerGoes}
 use Rattle.clock.specs.Broadcast.{sampleOf, broadcastRoom}
@@ -18,18 +20,19 @@ use Rattle.status.specs.Status.{alarmWord}
 use Rattle.gauge.specs.Word.{wordOf}
 use Rattle.pack.specs.Fits.{Fits, SampleFits}
 use Rattle.start.specs.Fits.{SetupFits}
-use Rattle.pack.specs.Kept.{latestOf}
 use Rattle.start.specs.SetUp.{setUpOf}
 use Rattle.pack.specs.Sound.{soundOf}
 use Rattle.pack.specs.declared.Pack.{Pack}
 use Rattle.pack.specs.declared.Sample.{Sample}
 use Rattle.start.specs.declared.Setup.{Setup}
 use Rattle.pack.specs.declared.State.{State}
+use Rattle.recent_laws.specs.Kept.{recentOf}
+use Rattle.recent_laws.specs.Minute.{averageOfAll}
 use Rattle.rooms.specs.Rooms.{Bytes, placed}
 use Rattle.runs.specs.Alarms.{Alarming, NoAlarm, AlarmWithin, ModeWrite, NoModeWrite}
 use Rattle.runs.specs.Events.{Event, sample, step, run, Throughout, EventFits, sent, accepted, acceptedOf, timeOf, ServedWrite, IdleEvent}
 use Rattle.runs.specs.Histories.{History}
-use Rattle.runs.specs.Since.{fromSetUp, measuresOf, measuresAfter, samplesOf, currentsOf, Signed16, chargeOver, Counted}
+use Rattle.runs.specs.Since.{fromSetUp, measuresOf, measuresAfter, milliseconds, latestCurrent, Signed16, chargeOver, Counted}
 use Rattle.runs.specs.Struck.{Struck, strike, SameBut, Same, Unmoved}
 use Rattle.capacity.specs.Capacity.{milliampMs}
 
@@ -55,7 +58,7 @@ TimeTrue =
 abbrev pub RunFits : Type 0
 RunFits = (s : State) (es : List Event) → Fits s → Throughout EventFits s es → Fits (run s es)
 
--- so the currents of the accepted samples are signed 16-bit numbers, as the theorems on charge ask
+-- so the currents of the accepted samples are signed 16-bit numbers, as the theorems on charge and average ask
 abbrev pub AcceptedSigned : Type 0
 AcceptedSigned = (s : State) (es : List Event) → Throughout EventFits s es → Signed16 (acceptedOf s es)
 
@@ -80,17 +83,24 @@ ReachedWords =
 
 -- ---- what is measured
 
--- latest sample, kept samples and charge depend on the accepted samples only
+-- latest sample, recent minute and charge depend on the accepted samples only
 abbrev pub MeasuresOfAccepted : Type 0
 MeasuresOfAccepted =
     (s : State) (es : List Event) → soundOf s ≡ true
     → measuresOf (run s es .pack) ≡ measuresAfter (measuresOf (s .pack)) (acceptedOf s es)
 
--- the kept samples are exactly the last 60 currents since set-up, set-up's own first
-abbrev pub KeptSinceSetUp : Type 0
-KeptSinceSetUp =
-    (u : Setup) (first : Sample) (es : List Event) → setUpOf u first .answer ≡ 0
-    → samplesOf (run (fromSetUp u first) es .pack .recent) ≡ take 60 (currentsOf (latestOf first .current ∷ []) (acceptedOf (fromSetUp u first) es))
+-- the kept totals are exactly those of the last 60 complete seconds since set-up, and the begun one has the rest
+abbrev pub MinuteSinceSetUp : Type 0
+MinuteSinceSetUp =
+    (u : Setup) (first : Sample) (es : List Event) → setUpOf u first .answer ≡ 0 → Signed16 (acceptedOf (fromSetUp u first) es)
+    → run (fromSetUp u first) es .pack .recent ≡ recentOf (milliseconds (first .counter) (acceptedOf (fromSetUp u first) es))
+
+-- register 0B as a signed number is the average over the last 60 complete seconds of all milliseconds since set-up; with none complete, the latest current
+abbrev pub AverageSinceSetUp : Type 0
+AverageSinceSetUp =
+    (u : Setup) (first : Sample) (es : List Event) → setUpOf u first .answer ≡ 0 → Signed16 (first ∷ acceptedOf (fromSetUp u first) es)
+    → toZ w16 (wordOf (run (fromSetUp u first) es) 0x0B)
+    ≡ averageOfAll (milliseconds (first .counter) (acceptedOf (fromSetUp u first) es)) (latestCurrent first (acceptedOf (fromSetUp u first) es))
 
 -- from any sound state, current × elapsed of every accepted sample is added to the charge, held between 0 and full
 abbrev pub ChargeFrom : Type 0

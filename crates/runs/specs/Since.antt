@@ -1,10 +1,10 @@
--- Since set-up: what accepted samples make of the latest sample, the kept samples and the charge.
+-- Since set-up: what accepted samples make of the latest sample, the recent minute and the charge.
 -- Assumes nothing.
 use Prim.Native.Nat.{ℕ, _-_, _%_, _^_, _≤_, _<_}
-use mathlib.Core.List.{List, [], _∷_}
+use mathlib.Core.List.{List, [], _∷_, _++_}
 use mathlib.Core.Path.{_≡_}
 use lib.IntN.{ℤ, pos, _+ℤ_, _*ℤ_}
-use lib.ListN.{take}
+use lib.ListN.{replicate}
 use mir.Syntax.{w16}
 use mir.Val.{SFits}
 use Rattle.clock.specs.Sample.{elapsedOf}
@@ -19,7 +19,7 @@ use Rattle.pack.specs.declared.State.{State}
 use Rattle.pack.specs.declared.Tank.{Tank}
 use Rattle.tank.specs.Charge.{tankAfter}
 use Rattle.capacity.specs.Capacity.{milliampMs}
-use Rattle.recent.specs.Recent.{recentAfter}
+use Rattle.seconds.specs.Seconds.{recentAfter}
 use Rattle.recent.specs.declared.Recent.{Recent}
 
 -- the state that set-up gives
@@ -43,19 +43,20 @@ measuresAfter m (x ∷ xs) =
     measuresAfter
     (record {
       latest = latestOf x;
-      recent = recentAfter (m .recent) (latestOf x .current);
+      recent = recentAfter (m .recent) (latestOf x .current) (elapsedOf (x .counter) (m .latest .counter));
       tank = tankAfter (m .tank) (latestOf x .current) (elapsedOf (x .counter) (m .latest .counter));
     })
     xs
 
--- the kept samples, the newest first
-abbrev pub samplesOf : Recent → List ℕ
-samplesOf k = take (k .count) (k .currents)
+-- the current of each millisecond since a reading, the oldest first: each sample's current for the milliseconds since the sample before (RULES 6.10)
+abbrev pub milliseconds : ℕ → List Sample → List ℤ
+milliseconds counter [] = []
+milliseconds counter (x ∷ xs) = replicate (elapsedOf (x .counter) counter) (x .current) ++ milliseconds (x .counter) xs
 
--- the currents of samples before those that came earlier: the newest first, without end
-abbrev pub currentsOf : List ℕ → List Sample → List ℕ
-currentsOf earlier [] = earlier
-currentsOf earlier (x ∷ xs) = currentsOf (latestOf x .current ∷ earlier) xs
+-- the latest current: the last sample's, or the first one's if none came after it (RULES 6.9)
+abbrev pub latestCurrent : Sample → List Sample → ℤ
+latestCurrent first [] = first .current
+latestCurrent first (x ∷ xs) = latestCurrent x xs
 
 -- every current is a signed 16-bit number, as the call's type has it
 abbrev pub Signed16 : List Sample → Type 0

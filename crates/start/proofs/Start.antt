@@ -7,12 +7,12 @@ use native.Mathlib.Omega.{arith}
 use native.Mathlib.Nat.{mul-le-mul-right}
 use lib.Dec.{eqb}
 use Rattle.pack.proofs.Soundness.{settings-sound, tank-sound, pack-sound, sound-state}
-use Rattle.pack.proofs.Kept.{word-fits, kept-fits}
+use Rattle.pack.proofs.Kept.{kept-fits}
 use Rattle.pack.specs.Fits.{Fits, SampleFits}
 use Rattle.pack.specs.Sound.{settingsSound, timersSound, packSound, soundOf}
 use Rattle.pack.specs.declared.Sample.{Sample}
-use Rattle.recent.proofs.Fits.{zero-recent-fits, started-fits}
-use Rattle.recent.proofs.Soundness.{started-sound}
+use Rattle.recent.proofs.Fits.{zero-recent-fits}
+use Rattle.recent.proofs.Soundness.{zero-sound}
 use Rattle.start.proofs.Conditions.{served}
 use Rattle.start.specs.Fits.{SetupFits}
 use Rattle.start.specs.Promises.{ZeroUnsound, SoundWhenServed, ServedOrZero, Initial, InitialValues, ZeroFits, StartFits}
@@ -50,7 +50,7 @@ start-sound u first h =
     (record {
       settings = settings-sound _ (record { design = f .design; voltage = f .voltage });
       tank = tank-sound _ (record { full = f .full; charge = mul-le-mul-right 3600000 (f .remaining) });
-      recent = started-sound _;
+      recent = zero-sound;
       timers = refl;
     }))
     (omega arith)
@@ -122,7 +122,7 @@ first-fits u first f x =
                   AtRate = omega arith;
                 };
             latest = kept-fits first x;
-            recent = started-fits _ (word-fits (first .current) (x .current));
+            recent = zero-recent-fits;
             tank = record { charge = omega (arith, f .remaining); full = f .full; CycleCount = f .CycleCount };
             timers = record { hold = omega arith; alarm = omega arith; charger = omega arith };
           };

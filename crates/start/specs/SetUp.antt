@@ -13,7 +13,7 @@ use Rattle.pack.specs.declared.State.{State}
 use Rattle.pack.specs.declared.Tank.{Tank}
 use Rattle.pack.specs.declared.Timers.{Timers}
 use Rattle.capacity.specs.Capacity.{milliampMs, fullyDischargedOf}
-use Rattle.recent.specs.Recent.{zeroRecent, startedOf}
+use Rattle.recent.specs.Recent.{zeroRecent}
 use Rattle.start.specs.declared.Setup.{Setup}
 use Rattle.start.specs.declared.Started.{Started}
 
@@ -64,14 +64,14 @@ tankOf u =
 abbrev pub firstTimers : Timers
 firstTimers = record { hold = 0; alarm = 10000; charger = 0 }
 
--- the pack that set-up gives; set-up counts as the first sample (RULES 3.9)
+-- the pack that set-up gives; no second is complete, none begun (RULES 3.9, 3.10)
 unfoldable pub packOf : Setup → Sample → Pack
 packOf u first =
     record {
       settings = settingsOf u;
       host = hostOf u;
       latest = latestOf first;
-      recent = startedOf (latestOf first .current);
+      recent = zeroRecent;
       tank = tankOf u;
       timers = firstTimers;
     }

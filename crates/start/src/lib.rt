@@ -170,7 +170,7 @@ fn pack_of(u: Setup, first: Sample) -> Pack
     let settings = settings_of(u);
     let host = host_of(u);
     let latest = pack::latest_of(first);
-    let recent = recent::started(latest.current);
+    let recent = recent::zero();
     let tank = tank_of(u);
     let timers = Timers {
         hold: 0,

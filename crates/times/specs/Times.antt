@@ -3,10 +3,9 @@
 use Prim.Native.Nat.{ℕ, _+_, _-_, _*_}
 use mathlib.Core.Bool.{Bool, cond}
 use lib.Dec.{leb}
-use Rattle.recent.specs.Recent.{averageOf}
 use Rattle.pack.specs.declared.Pack.{Pack}
 use Rattle.capacity.specs.Capacity.{minutesOf, powerOf}
-use Rattle.registers.specs.Registers.{remainingCapacity, fullChargeCapacity}
+use Rattle.registers.specs.Registers.{averageCurrent, remainingCapacity, fullChargeCapacity}
 use Rattle.words.specs.Words.{above, below, sizeOf}
 
 -- minutes if the rate flows the command's way, else 65,535 (RULES 6.5)
@@ -55,8 +54,8 @@ runTimeToEmpty p = timeToEmptyAt p (p .latest .current)
 
 -- 12 AverageTimeToEmpty: from the mean (RULES 6.16)
 abbrev pub averageTimeToEmpty : Pack → ℕ
-averageTimeToEmpty p = timeToEmptyAt p (averageOf (p .recent))
+averageTimeToEmpty p = timeToEmptyAt p (averageCurrent p)
 
 -- 13 AverageTimeToFull: from the mean, on full minus remaining, as 05 (RULES 6.16)
 abbrev pub averageTimeToFull : Pack → ℕ
-averageTimeToFull p = minutesIf (above (averageOf (p .recent))) (missing p) (rateOf p (averageOf (p .recent)))
+averageTimeToFull p = minutesIf (above (averageCurrent p)) (missing p) (rateOf p (averageCurrent p))

@@ -124,8 +124,7 @@ pub fn average_time_to_empty(p: Pack) -> u16
     requires { ⌜ (tankSound (p .tank) ≡ true) × (recentSound (p .recent) ≡ true) ⌝ }
     ensures { λ r. ⌜ r ≡ averageTimeToEmpty p ⌝ }
 {
-    let recent = p.recent;
-    time_to_empty_at(p, recent::average(recent))
+    time_to_empty_at(p, registers::average_current(p))
 }
 
 // 13 AverageTimeToFull.
@@ -133,8 +132,7 @@ pub fn average_time_to_full(p: Pack) -> u16
     requires { ⌜ (tankSound (p .tank) ≡ true) × (recentSound (p .recent) ≡ true) ⌝ }
     ensures { λ r. ⌜ r ≡ averageTimeToFull p ⌝ }
 {
-    let recent = p.recent;
-    let current = recent::average(recent);
+    let current = registers::average_current(p);
     let flows = words::rises(current);
     let left = missing_capacity(p);
     let rate = rate_of(p, current);

@@ -52,7 +52,3 @@ pub size-is : SizeTrue
 size-is w l =
     split w 32768 (λ h. size-low w h ∙ ap natAbs (sym (low w h)))
     (λ h. let e : 65536 - w ≡ suc (65536 - suc w) = omega arith in size-high w h ∙ e ∙ ap natAbs (sym (high w h)))
-
--- the integer's is at most 32,768
-pub integer-most : (w : ℕ) → natAbs (toZ w16 w) ≤ 32768
-integer-most w = split w 32768 (λ h. omega (arith, ap natAbs (low w h))) (λ h. omega (arith, ap natAbs (high w h)))

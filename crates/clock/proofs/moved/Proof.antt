@@ -17,4 +17,4 @@ returns c =
     )
 
 pub moved-spec : {M : Type 1} → statement M
-moved-spec = tie.close (tie.spec (search needs) (search needs) (search needs) (λ c κs. search needs) (λ c κs. search needs) (search needs) returns)
+moved-spec = tie.close (tie.spec (search needs) (search needs) (λ c κs. search needs) (λ c κs. search needs) (λ c κs. search needs) (search needs) returns)

@@ -16,18 +16,20 @@ use Rattle.clock.proofs.serve.Statement.{statement}
 use Rattle.clock.proofs.serve.Tie as tie
 
 moved-requires : tie.Need-moved-requires
-moved-requires c κs = let f = parts _ (pack-of-sound (c .before .args .s) (c .before .pre .0)) in (f .tank, f .timers)
+moved-requires c κs = let f = parts _ (pack-of-sound (c .before .args .s) (c .before .pre .0)) in (f .tank, f .recent, f .timers)
 
 alarm-goes-requires : tie.Need-alarm-goes-requires
 alarm-goes-requires c κs =
     let start = c .before .before in
-    sendable (start .args .s .pack) (c .moved .result) (start .args .sample) (parts _ (pack-of-sound _ (start .pre .0)) .tank) (c .moved .ensures)
+    let f = parts _ (pack-of-sound _ (start .pre .0)) in
+    sendable (start .args .s .pack) (c .moved .result) (start .args .sample) (f .tank) (f .recent) (c .moved .ensures)
 
 send-alarms-requires : tie.Need-send-alarms-requires
 send-alarms-requires c κs =
     let start = c .before .before .before .before .before in
     let moved = c .before .before .before .moved in
-    let ready = sendable (start .args .s .pack) (moved .result) (start .args .sample) (parts _ (pack-of-sound _ (start .pre .0)) .tank) (moved .ensures) in
+    let f = parts _ (pack-of-sound _ (start .pre .0)) in
+    let ready = sendable (start .args .s .pack) (moved .result) (start .args .sample) (f .tank) (f .recent) (moved .ensures) in
     (ready .0, ready .1, c .before .before .alarm-goes .ensures, start .pre .1)
 
 send-charger-words-requires : tie.Need-send-charger-words-requires

@@ -68,7 +68,7 @@ word-spec =
     (λ c. here (c .before .before .args .s) _ 0x08 _ (c .match .keys9) refl)
     (λ c. here (c .before .before .args .s) _ 0x09 _ (c .match .keys10) refl)
     (λ c. here (c .before .before .args .s) _ 0x0A _ (c .match .keys11) refl)
-    (λ c. here (c .before .before .before .args .s) _ 0x0B _ (c .before .match .keys12) (c .mean .ensures))
+    (λ c. here (c .before .before .before .args .s) _ 0x0B _ (c .before .match .keys12) (c .average-current .ensures))
     (λ c. here (c .before .before .args .s) _ 0x0C _ (c .match .keys13) refl)
     (λ c. here (c .before .before .before .args .s) _ 0x0D _ (c .before .match .keys14) (c .relative-state-of-charge .ensures))
     (λ c. here (c .before .before .before .args .s) _ 0x0E _ (c .before .match .keys15) (c .absolute-state-of-charge .ensures))

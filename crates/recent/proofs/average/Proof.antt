@@ -1,6 +1,9 @@
--- `recent::average` meets its contract: the kept words summed, then divided by their count.
+-- `recent::average` meets its contract: the latest, or the kept totals summed and divided by their length.
 -- Assumes nothing.
+use Prim.Native.Nat.{_*_}
 use borrow.Author.Needs.{needs}
+use borrow.Author.Tests.{eq-eqb, ne-eqb}
+use native.Mathlib.Omega.{arith}
 use mathlib.Core.Path.{ap, _∙_}
 use lib.IntN.{ℤ, pos}
 use lib.Signed.{quotZ}
@@ -11,18 +14,29 @@ use Rattle.recent.proofs.Soundness.{recent-facts}
 use Rattle.recent.proofs.average.Statement.{statement}
 use Rattle.recent.proofs.average.Tie as tie
 
-summed-requires : tie.Need-summed-requires
-summed-requires c κs = recent-facts (c .before .args .r) (c .before .pre) .most
-
-cast-divided : tie.Need-cast-divided
-cast-divided c = let f = recent-facts (c .before .before .args .r) (c .before .before .pre) in search needs
-
-divided-requires : tie.Need-divided-requires
-divided-requires c κs = let f = recent-facts (c .before .before .args .r) (c .before .before .pre) in search needs
-
 returns : tie.Need-returns
 unfolding averageOf
-returns c = c .divided .ensures ∙ ap (λ (z : ℤ). ofZ w16 (quotZ z (pos (c .before .before .before .args .r .count)))) (c .before .summed .ensures .0)
+returns c = rw (eq-eqb _ _ (c .if1 .taken))
+
+summed-requires : tie.Need-summed-requires
+summed-requires c κs = let f = recent-facts (c .before .before .args .r) (c .before .before .pre) in (f .most, f .totals)
+
+cast-divided : tie.Need-cast-divided
+cast-divided c = let f = recent-facts (c .before .before .before .args .r) (c .before .before .before .pre) in search needs
+
+mul-divided : tie.Need-mul-divided
+mul-divided c = let f = recent-facts (c .before .before .before .args .r) (c .before .before .before .pre) in search needs
+
+divided-requires : tie.Need-divided-requires
+divided-requires c κs =
+    let f = recent-facts (c .before .before .before .args .r) (c .before .before .before .pre) in (omega (arith, c .before .before .if1 .left), omega arith, omega arith)
+
+returns-2 : tie.Need-returns-2
+unfolding averageOf
+returns-2 c =
+    rw (ne-eqb _ _ (c .before .before .before .if1 .left))
+    (c .divided .ensures
+    ∙ ap (λ (z : ℤ). ofZ w16 (quotZ z (pos (1000 * c .before .before .before .before .args .r .count)))) (c .before .summed .ensures .0))
 
 pub average-spec : {M : Type 1} → statement M
-average-spec = tie.close (tie.spec summed-requires cast-divided divided-requires returns)
+average-spec = tie.close (tie.spec returns summed-requires cast-divided mul-divided divided-requires returns-2)

@@ -13,11 +13,11 @@ use Rattle.recent.proofs.divided.Tie as tie
 
 cast-result : tie.Need-cast-result
 cast-result c =
-    let a = c .before .before .before in omega (arith, over (a .args .s .ins - a .args .s .outs) (a .args .n) (omega (arith, a .pre .1)))
+    let a = c .before .before .before in omega (arith, over 32768 (a .args .s .ins - a .args .s .outs) (a .args .n) (omega (arith, a .pre .1)))
 
 sub-result : tie.Need-sub-result
 sub-result c =
-    let a = c .before .before .before .before in omega (arith, over (a .args .s .outs - a .args .s .ins) (a .args .n) (omega (arith, a .pre .2)))
+    let a = c .before .before .before .before in omega (arith, over 32768 (a .args .s .outs - a .args .s .ins) (a .args .n) (omega (arith, a .pre .2)))
 
 returns : tie.Need-returns
 returns c = word-up _ _ _ (c .before .if1 .taken)

@@ -1,4 +1,4 @@
--- `recent::summed` meets its contract. The loop's invariant: the sum of the first i words, each side at most 32,768 for each.
+-- `recent::summed` meets its contract. The loop's invariant: the sum of the first i totals, each side at most 32,768,000 for each.
 -- The measure is what is left of the count. Assumes nothing.
 use Prim.Native.Nat.{ℕ, _≤_, _*_, _-_, _+_}
 use borrow.Author.Needs.{needs}
@@ -9,33 +9,39 @@ use mathlib.Core.Path.{_≡_, refl, ap, _∙_, sym}
 use mathlib.Core.List.{List}
 use lib.IntN.{ℤ, subℕ, _+ℤ_}
 use lib.ListN.{getD}
-use mir.Syntax.{w16}
+use mir.Syntax.{w32}
 use mir.Val.{toZ}
 use Rattle.recent.specs.Recent.{sumOf}
+use Rattle.recent.proofs.Totals.{totals-each}
 use Rattle.recent.proofs.summed.Statement.{statement}
 use Rattle.recent.proofs.summed.Tie as tie
 
 abbrev Inv-loop : tie.InvT-loop
-Inv-loop count currents s₀ i₀ s i =
-    (i ≤ count) × (subℕ (s .ins) (s .outs) ≡ sumOf currents i) × (s .ins ≤ 32768 * i) × (s .outs ≤ 32768 * i)
+Inv-loop count totals s₀ i₀ s i =
+    (i ≤ count) × (subℕ (s .ins) (s .outs) ≡ sumOf totals i) × (s .ins ≤ 32768000 * i) × (s .outs ≤ 32768000 * i)
 
 abbrev μ-loop : tie.MeasureT-loop
-μ-loop count currents s₀ i₀ s i = count - i
+μ-loop count totals s₀ i₀ s i = count - i
 
-next : (currents : List ℕ) (i : ℕ) → sumOf currents i +ℤ toZ w16 (getD currents i 0) ≡ sumOf currents (i + 1)
+next : (totals : List ℕ) (i : ℕ) → sumOf totals i +ℤ toZ w32 (getD totals i 0) ≡ sumOf totals (i + 1)
 unfolding sumOf
-next currents i = sym (ap (sumOf currents) (add-one i))
+next totals i = sym (ap (sumOf totals) (add-one i))
 
 loop-holds : tie.Need-loop-holds Inv-loop μ-loop
 unfolding sumOf
 loop-holds c = (omega arith, refl, omega arith, omega arith)
+
+added-requires : tie.Need-added-requires Inv-loop μ-loop
+added-requires c κs =
+    let k = c .before .before in
+    (omega arith, omega arith, totals-each (k .args .t1) (k .args .count) (c .before .loop .i) (search needs) (k .pre .1))
 
 loop-again : tie.Need-loop-again Inv-loop μ-loop
 loop-again c =
     let k = c .before .before .loop in
     let e = c .added .ensures in (
       omega arith,
-      e .0 ∙ ap (λ (z : ℤ). z +ℤ toZ w16 (getD (c .before .before .before .args .t1) (k .i) 0)) (k .inv .1)
+      e .0 ∙ ap (λ (z : ℤ). z +ℤ toZ w32 (getD (c .before .before .before .args .t1) (k .i) 0)) (k .inv .1)
           ∙ next (c .before .before .before .args .t1) (k .i),
       omega arith,
       omega arith,
@@ -48,4 +54,4 @@ returns c =
     (k .inv .1 ∙ ap (sumOf (c .before .before .args .t1)) e, (omega arith, omega arith))
 
 pub summed-spec : {M : Type 1} → statement M
-summed-spec = tie.close (tie.spec Inv-loop μ-loop loop-holds (search needs) (search needs) (search needs) (search needs) (search needs) loop-again returns)
+summed-spec = tie.close (tie.spec Inv-loop μ-loop loop-holds (search needs) (search needs) added-requires (search needs) (search needs) loop-again returns)

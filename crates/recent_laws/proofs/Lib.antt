@@ -1,0 +1,10 @@
+pub mod Lists
+pub mod Cut
+pub mod Totals
+pub mod Currents
+pub mod Kept
+pub mod Given
+pub mod Last
+pub mod Sound
+pub mod Average
+pub mod Examples

@@ -1,0 +1,4 @@
+pub mod Minute
+pub mod Kept
+pub mod Promises
+pub mod Examples

@@ -1,0 +1,3 @@
+pub mod After
+pub mod Flow
+pub mod Places
