@@ -79,35 +79,42 @@ static void sound_p(void) { sink = snatchblock_sound(area, sizeof area); }
 static void sound_c(void) { sink = sb2_area_sound(of(area, sizeof area)); }
 static void sound_s(void) { sink = sb2_sound(&state); }
 
-/* 1 ms on: no message is due. */
-static void quiet_p(void) { sink = snatchblock_sample(area, sizeof area, 14800, -5, 2981, ++counter, room, 16); }
-static void quiet_c(void)
+static void sample_p(int16_t current, uint16_t temperature, uint32_t ms)
+{
+    sink = snatchblock_sample(area, sizeof area, 14800, current, temperature, counter += ms, room, 16);
+}
+static void sample_c(int16_t current, uint16_t temperature, uint32_t ms)
 {
     size_t length;
-    struct sb2_sample sample = {14800, -5, 2981, ++counter};
+    struct sb2_sample sample = {14800, current, temperature, counter += ms};
     sink = (uint64_t)sb2_area_take_sample(area, sizeof area, &sample, room, 16, &length);
 }
-static void quiet_s(void)
+static void sample_s(int16_t current, uint16_t temperature, uint32_t ms)
 {
     size_t length;
-    struct sb2_sample sample = {14800, -5, 2981, ++counter};
+    struct sb2_sample sample = {14800, current, temperature, counter += ms};
     sink = (uint64_t)sb2_take_sample(&state, &sample, room, 16, &length);
 }
 
+/* 1 ms on: no second is complete, no message is due. */
+static void quiet_p(void) { sample_p(-5, 2981, 1); }
+static void quiet_c(void) { sample_c(-5, 2981, 1); }
+static void quiet_s(void) { sample_s(-5, 2981, 1); }
+
+/* One second is complete, no message is due. */
+static void second_p(void) { sample_p(-5, 2981, 1000); }
+static void second_c(void) { sample_c(-5, 2981, 1000); }
+static void second_s(void) { sample_s(-5, 2981, 1000); }
+
+/* The longest time: all 60 seconds are new, and the charger's words are due. */
+static void longest_p(void) { sample_p(-5, 2981, 4294967295u); }
+static void longest_c(void) { sample_c(-5, 2981, 4294967295u); }
+static void longest_s(void) { sample_s(-5, 2981, 4294967295u); }
+
 /* 30,000 ms on, hot and charging: four messages each time. */
-static void loud_p(void) { sink = snatchblock_sample(area, sizeof area, 14800, 5, 4000, counter += 30000, room, 16); }
-static void loud_c(void)
-{
-    size_t length;
-    struct sb2_sample sample = {14800, 5, 4000, counter += 30000};
-    sink = (uint64_t)sb2_area_take_sample(area, sizeof area, &sample, room, 16, &length);
-}
-static void loud_s(void)
-{
-    size_t length;
-    struct sb2_sample sample = {14800, 5, 4000, counter += 30000};
-    sink = (uint64_t)sb2_take_sample(&state, &sample, room, 16, &length);
-}
+static void loud_p(void) { sample_p(5, 4000, 30000); }
+static void loud_c(void) { sample_c(5, 4000, 30000); }
+static void loud_s(void) { sample_s(5, 4000, 30000); }
 
 static void write_key_p(void) { sink = snatchblock_write_key(text, size, text + 64, size, 0x526F, 17, room, 139); }
 static void write_key_c(void)
@@ -252,6 +259,8 @@ static const struct {
     {set_up_p, "snatchblock_set_up"},
     {sound_p, "snatchblock_sound"},
     {quiet_p, "snatchblock_sample"},
+    {second_p, "snatchblock_sample"},
+    {longest_p, "snatchblock_sample"},
     {loud_p, "snatchblock_sample"},
     {transact_p, "snatchblock_transact"},
     {pec_p, "snatchblock_pec"},
@@ -329,6 +338,8 @@ static void make_entries(void)
     for (uint8_t command = 0; command <= 4; command++)
         add_command("write-pec", false, command);
     add("sample-quiet", quiet_p, quiet_c, quiet_s);
+    add("sample-second", second_p, second_c, second_s);
+    add("sample-longest", longest_p, longest_c, longest_s);
     add("sample-four-messages", loud_p, loud_c, loud_s);
     add("set-up", set_up_p, set_up_c, set_up_s);
     add("sound", sound_p, sound_c, sound_s);
@@ -363,7 +374,7 @@ static void make_capture(uint8_t *at, size_t rows)
         at[2 + 2 * i] = 37;
 }
 
-/* A long message, and a pack with 60 currents kept, in an area and in a state. */
+/* A long message, and a pack with 60 seconds kept, in an area and in a state. */
 static uint8_t start_area[SNATCHBLOCK_AREA];
 static struct sb2_state start_state;
 
@@ -377,8 +388,8 @@ static void make_start(void)
     size_t length;
     (void)sb2_area_transact(start_area, sizeof start_area, false, of(at_rate, 4), of(sheet, sheet_length), of(sheet, sheet_length), room, 34, &length);
     (void)sb2_transact(&start_state, false, of(at_rate, 4), of(sheet, sheet_length), of(sheet, sheet_length), room, 34, &length);
-    for (uint32_t i = 1; i < 60; i++) {
-        struct sb2_sample sample = {14800, -1500, 2981, i};
+    for (uint32_t i = 1; i <= 60; i++) {
+        struct sb2_sample sample = {14800, -1500, 2981, 1000 * i};
         (void)sb2_area_take_sample(start_area, sizeof start_area, &sample, room, 16, &length);
         (void)sb2_take_sample(&start_state, &sample, room, 16, &length);
     }
@@ -389,7 +400,7 @@ static void prepare(const struct entry *e)
 {
     memcpy(area, start_area, sizeof area);
     state = start_state;
-    counter = 100;
+    counter = 60000;
     size = e->size;
     if (e->call[0] == walk_p)
         make_capture(walked, size);

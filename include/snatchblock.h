@@ -20,8 +20,8 @@
  * One call at a time on one area. If transactions come from an interrupt, mask it around every call, and every copy of
  * the area, that the loop makes; the bus hardware holds the clock meanwhile. Calls on other areas may run beside it.
  *
- * Stack, in bytes, the most that was measured of each (`make bench`, x86-64; nothing proves it): transact 2,296;
- * read_key 1,752; unescape 1,656; sample 1,128; sound 440; exchange_check 312; pec 280; write_sheet 128; set_up 112;
+ * Stack, in bytes, the most that was measured of each (`make bench`, x86-64; nothing proves it): transact 3,440;
+ * sample 1,792; read_key 1,752; unescape 1,656; sound 1,088; exchange_check 312; pec 280; write_sheet 128; set_up 112;
  * block 104; shelf_report 80; write_key 56; bit_comparison, is_sheet, open_capture, step_capture 16.
  */
 #ifndef SNATCHBLOCK_H
@@ -112,19 +112,23 @@ static inline size_t snatchblock_step_next(uint64_t result) { return (size_t)(re
  * The version of the area. Every version has its own length, so that an area of another one is answered 1.
  * Bytes with a flag above 1 or with a state that isn't sound are answered 1 too, and left as they are.
  *
+ * What moved in version 2, of 312 bytes: the last part, RECENT. In version 1, of 186 bytes, it held the currents of 60
+ * samples; now it holds the last 60 seconds. All before it is as it was: the first SNATCHBLOCK_RECENT bytes of a sound
+ * area of version 1, with zeros behind them, are a sound area of version 2 in which no second is complete.
+ *
  * What is stored when, for an area in EEPROM: answers 1 to 3 don't touch it; 4 to 9 and every read store its first byte
  * alone, a served write that byte, HOST and TIMERS; a sample and a set-up store all of it.
  *
- * Stored bytes rot, and snatchblock_sound is no test for that. Keep the area's PEC beside it (snatchblock_pec of its 186
+ * Stored bytes rot, and snatchblock_sound is no test for that. Keep the area's PEC beside it (snatchblock_pec of its 312
  * bytes). Take the area back only if its PEC matches and it is sound: bytes that are all 0 have the PEC 0, and aren't
- * sound. Else set the pack up anew. Proved of these 187 bytes: the PEC shows every odd number of altered bits, all
+ * sound. Else set the pack up anew. Proved of these 313 bytes: the PEC shows every odd number of altered bits, all
  * damage within eight neighbouring bits, and two altered bits unless they stand a multiple of 127 apart. Two bits that
  * do are not seen. Of damage in other even numbers of bits about one in 128 is not seen (measured by tests/c/storage.c).
  * A store that the power cuts short is such damage: where that can happen keep two copies, and store them in turn.
  *
  * After storage, and whenever the counter started anew: the first sample has current 0 (see snatchblock_sample).
  */
-#define SNATCHBLOCK_VERSION 1
+#define SNATCHBLOCK_VERSION 2
 
 /*
  * The bytes of an area: the error code, then each part at its place. A flag is one byte, 1 or 0.
@@ -141,8 +145,10 @@ static inline size_t snatchblock_step_next(uint64_t result) { return (size_t)(re
  *                     8  2 x 2  full capacity, CycleCount
  *                    12      1  flag: FullyDischarged
  *   TIMERS      53    0  3 x 4  hold, alarm timer, charger timer, in ms
- *   RECENT      65    0 60 x 2  the currents of the kept samples, newest first
- *                   120      1  how many are kept
+ *   RECENT      65    0 60 x 4  the last complete seconds since set-up, newest first: current x time, mA·ms, signed
+ *                   240      1  how many of them are kept, 0 to 60; what stands beyond them isn't looked at
+ *                   241      2  the begun second's ms, under 1,000
+ *                   243      4  its current x time
  */
 #define SNATCHBLOCK_SETTINGS 1
 #define SNATCHBLOCK_HOST (SNATCHBLOCK_SETTINGS + 18)
@@ -150,7 +156,7 @@ static inline size_t snatchblock_step_next(uint64_t result) { return (size_t)(re
 #define SNATCHBLOCK_TANK (SNATCHBLOCK_LATEST + 10)
 #define SNATCHBLOCK_TIMERS (SNATCHBLOCK_TANK + 13)
 #define SNATCHBLOCK_RECENT (SNATCHBLOCK_TIMERS + 12)
-#define SNATCHBLOCK_AREA (SNATCHBLOCK_RECENT + 121)
+#define SNATCHBLOCK_AREA (SNATCHBLOCK_RECENT + 247)
 
 /* Room that is always enough: for a sample's broadcasts, a reply, a key, a sheet, a shelf's figures. Less is refused. */
 #define SNATCHBLOCK_BROADCAST_ROOM 16
@@ -216,6 +222,10 @@ static inline uint32_t snatchblock_set_up_from(uint8_t *area, size_t area_length
  * an alarm then goes every 11 s at the latest. Answers 0, 1, 2; length_of has the broadcasts' bytes, 0 to 16. 1 and 2
  * leave area and room as they were.
  *
+ * Its current counts for the time since the sample before, and set-up's for none. AverageCurrent is the mean over the
+ * last 60 whole seconds since set-up, or as many as there are, cut toward zero; the begun second isn't in it, and before
+ * the first is complete it is the latest current. So it is a minute's mean however often samples come.
+ *
  * A broadcast is a message of four bytes that the pack itself sends as the bus's master: address (10 the host, 12 the
  * charger), command, low, high; no PEC. The driver sends them in their order. The specification allows none in the first
  * 10 s after the bus came on: those the driver drops. A lost one isn't made up; the next comes 10 or 30 s later.
@@ -223,8 +233,8 @@ static inline uint32_t snatchblock_set_up_from(uint8_t *area, size_t area_length
  * Elapsed is the counter's reading minus the latest one, wrapping. It is the true time only if samples come under
  * 2^32 ms (49.7 days) apart and the counter ran on between them. After storage, after a restart of the counter, in
  * doubt: bring a sample with current 0 first. It is proved to change no charge, whatever its counter says, and the next
- * sample counts from its reading. The hold and the two timers move by what the counter shows. Any other current there
- * adds current x a wrong elapsed, up to 1,193 hours of it, and the pack reads empty or full.
+ * sample counts from its reading. The hold, the two timers and the minute move by what the counter shows. Any other
+ * current there adds current x a wrong elapsed, up to 1,193 hours of it, and the pack reads empty or full.
  */
 uint32_t snatchblock_sample(uint8_t *area, size_t area_length, uint16_t voltage, int16_t current,
                             uint16_t temperature, uint32_t counter, uint8_t *room, size_t room_length);

@@ -1,5 +1,5 @@
 /* The state in a lent area, part by part, as a firmware keeps it over the winter. */
-#include "snatchblock2.h"
+#include "inside.h"
 
 /* The number that so many bytes stand for, low byte first. */
 static uint64_t number(const uint8_t **at, size_t bytes)
@@ -23,6 +23,12 @@ static int16_t signed_word(const uint8_t **at)
 {
     int32_t value = word(at);
     return (int16_t)(value < 0x8000 ? value : value - 0x10000);
+}
+
+static int32_t signed_number(const uint8_t **at)
+{
+    int64_t value = (int64_t)number(at, 4);
+    return (int32_t)(value <= INT32_MAX ? value : value - (INT64_C(1) << 32));
 }
 
 /* As many bytes as an area has, each flag 0 or 1. */
@@ -84,11 +90,15 @@ static void load_timers(const uint8_t *at, struct sb2_timers *t)
     t->charger = (uint32_t)number(&at, 4);
 }
 
-static void load_recent(const uint8_t *at, struct sb2_kept *kept)
+/* Newest first in the area, oldest first from the front of the ring. */
+static void load_recent(const uint8_t *at, struct sb2_minute *m)
 {
-    for (size_t i = 0; i < SB2_KEPT; i++)
-        kept->current[i] = signed_word(&at);
-    kept->count = (uint32_t)number(&at, 1);
+    m->newest = SB2_SECONDS - 1;
+    for (uint32_t place = 0; place < SB2_SECONDS; place++)
+        m->total[m->newest - place] = signed_number(&at);
+    m->count = (uint32_t)number(&at, 1);
+    m->begun_ms = (uint32_t)number(&at, 2);
+    m->begun_total = signed_number(&at);
 }
 
 bool sb2_area_load(struct sb2_bytes area, struct sb2_state *state)
@@ -101,7 +111,7 @@ bool sb2_area_load(struct sb2_bytes area, struct sb2_state *state)
     load_latest(area.at + SB2_LATEST_AT, &state->latest);
     load_tank(area.at + SB2_TANK_AT, &state->tank);
     load_timers(area.at + SB2_TIMERS_AT, &state->timers);
-    load_recent(area.at + SB2_RECENT_AT, &state->kept);
+    load_recent(area.at + SB2_RECENT_AT, &state->minute);
     return true;
 }
 
@@ -167,11 +177,13 @@ static void store_timers(uint8_t *at, const struct sb2_timers *t)
     put(&at, 4, t->charger);
 }
 
-static void store_recent(uint8_t *at, const struct sb2_kept *kept)
+static void store_recent(uint8_t *at, const struct sb2_minute *m)
 {
-    for (size_t i = 0; i < SB2_KEPT; i++)
-        put_word(&at, (uint16_t)kept->current[i]);
-    put(&at, 1, kept->count);
+    for (uint32_t place = 0; place < SB2_SECONDS; place++)
+        put(&at, 4, (uint32_t)sb2_second_at(m, place));
+    put(&at, 1, m->count);
+    put(&at, 2, m->begun_ms);
+    put(&at, 4, (uint32_t)m->begun_total);
 }
 
 /* Writes what a transaction can change: error code, the host's words, timers. */
@@ -188,7 +200,7 @@ void sb2_area_store(const struct sb2_state *state, uint8_t area[SB2_AREA])
     store_settings(area + SB2_SETTINGS_AT, &state->settings);
     store_latest(area + SB2_LATEST_AT, &state->latest);
     store_tank(area + SB2_TANK_AT, &state->tank);
-    store_recent(area + SB2_RECENT_AT, &state->kept);
+    store_recent(area + SB2_RECENT_AT, &state->minute);
 }
 
 int sb2_area_set_up(uint8_t *area, size_t area_length, const struct sb2_set_up *in)

@@ -20,14 +20,33 @@ static size_t put_message(uint8_t *room, size_t place, uint8_t address, uint8_t 
     return place + 4;
 }
 
-/* Puts the newest current in front; the oldest of 60 falls out (rule: Registers, 0B). */
-static void keep_current(struct sb2_kept *kept, int16_t current)
+/* The begun second is complete: it takes the place of the oldest of 60, and the next begins (rule: R-2). */
+static void complete_second(struct sb2_minute *m)
 {
-    for (size_t i = SB2_KEPT - 1; i > 0; i--)
-        kept->current[i] = kept->current[i - 1];
-    kept->current[0] = current;
-    if (kept->count < SB2_KEPT)
-        kept->count++;
+    m->newest = (m->newest + 1) % SB2_SECONDS;
+    m->total[m->newest] = m->begun_total;
+    if (m->count < SB2_SECONDS)
+        m->count++;
+    m->begun_ms = 0;
+    m->begun_total = 0;
+}
+
+/* Walks the time that a current counts for, up to the end of a second at each step (rule: R-2). */
+static void walk_seconds(struct sb2_minute *m, int16_t current, uint32_t elapsed)
+{
+    /* seconds that are alike and more than a minute old leave nothing, so the walk leaves them out */
+    const uint32_t longest = (SB2_SECONDS + 1) * SB2_SECOND_MS;
+    if (elapsed > longest)
+        elapsed -= (elapsed - longest) / SB2_SECOND_MS * SB2_SECOND_MS;
+    while (elapsed > 0) {
+        uint32_t to_end = SB2_SECOND_MS - m->begun_ms;
+        uint32_t step = elapsed < to_end ? elapsed : to_end;
+        m->begun_ms += step;
+        m->begun_total += current * (int32_t)step;
+        elapsed -= step;
+        if (m->begun_ms == SB2_SECOND_MS)
+            complete_second(m);
+    }
 }
 
 /* Adds current × elapsed and holds the sum between 0 and full (rule: Registers, charge). */
@@ -92,7 +111,7 @@ static size_t send_charger_words(struct sb2_state *s, uint32_t elapsed, uint8_t 
     return put_message(room, place, CHARGER, CHARGING_VOLTAGE, sb2_register(s, CHARGING_VOLTAGE));
 }
 
-/* 1, 2, or a sample taken: readings, charge, bit 4, countdown, then the messages (rule: Clock and broadcasts). */
+/* 1, 2, or a sample taken: readings, minute, charge, bit 4, countdown, then the messages (rule: Clock and broadcasts). */
 int sb2_take_sample(struct sb2_state *state, const struct sb2_sample *sample, uint8_t *room, size_t room_length,
                     size_t *length)
 {
@@ -103,7 +122,7 @@ int sb2_take_sample(struct sb2_state *state, const struct sb2_sample *sample, ui
         return SB2_SMALL_ROOM;
     uint32_t elapsed = sb2_elapsed(state->latest.counter, sample->counter);
     state->latest = *sample;
-    keep_current(&state->kept, sample->current);
+    walk_seconds(&state->minute, sample->current, elapsed);
     add_charge(&state->tank, sample->current, elapsed);
     decide_discharged(state);
     count_timers(state, elapsed);

@@ -34,7 +34,8 @@ uint16_t sb2_pack_specification(unsigned version, unsigned revision, unsigned vo
     return (uint16_t)(version * 0x10u + revision + (voltage_scale + current_scale * 0x10u) * 0x100u);
 }
 
-/* 11 with the all-zero state, or 0 with the first state, its sample counted (rules: Answer numbers; Registers). */
+/* 11 with the all-zero state, or 0 with the first state, no second complete or begun (rules: Answer numbers; Registers;
+ * R-2). */
 int sb2_set_up(struct sb2_state *state, const struct sb2_set_up *in)
 {
     struct sb2_set_up given = *in;
@@ -54,8 +55,6 @@ int sb2_set_up(struct sb2_state *state, const struct sb2_set_up *in)
     state->host.remaining_capacity_alarm = given.design_capacity / 10;
     state->host.remaining_time_alarm = 10;
     state->latest = given.first;
-    state->kept.current[0] = given.first.current;
-    state->kept.count = 1;
     state->tank.charge = (uint64_t)given.remaining_capacity * SB2_MS_PER_HOUR;
     state->tank.full_capacity = given.full_capacity;
     state->tank.cycle_count = given.cycle_count;
@@ -64,14 +63,37 @@ int sb2_set_up(struct sb2_state *state, const struct sb2_set_up *in)
     return SB2_SERVED;
 }
 
-/* Every bound of a sound state (rule: Answer numbers, last paragraph). */
+/* The ring goes round: one place older is one place down. */
+int32_t sb2_second_at(const struct sb2_minute *minute, uint32_t place)
+{
+    return minute->total[(minute->newest % SB2_SECONDS + SB2_SECONDS - place) % SB2_SECONDS];
+}
+
+/* Whether signed 16-bit currents can give a total in so many ms, at most 1,000 (rule: R-2). */
+static bool can_be(int32_t total, uint32_t ms)
+{
+    return total >= INT16_MIN * (int32_t)ms && total <= INT16_MAX * (int32_t)ms;
+}
+
+/* 0 to 60 complete seconds and a begun one, each with a total that can be; others aren't looked at (rule: R-2). */
+static bool minute_sound(const struct sb2_minute *m)
+{
+    if (m->count > SB2_SECONDS || m->begun_ms >= SB2_SECOND_MS)
+        return false;
+    for (uint32_t place = 0; place < m->count; place++)
+        if (!can_be(sb2_second_at(m, place), SB2_SECOND_MS))
+            return false;
+    return can_be(m->begun_total, m->begun_ms);
+}
+
+/* Every bound of a sound state (rules: Answer numbers, last paragraph; R-2). */
 bool sb2_sound(const struct sb2_state *s)
 {
     if (s->settings.design_capacity == 0 || s->tank.full_capacity == 0 || s->settings.design_voltage == 0)
         return false;
     if (s->tank.charge > full_charge(s))
         return false;
-    if (s->kept.count < 1 || s->kept.count > SB2_KEPT)
+    if (!minute_sound(&s->minute))
         return false;
     if (s->timers.hold > SB2_HOLD_MS || s->timers.alarm > SB2_ALARM_MS || s->timers.charger >= SB2_CHARGER_MS)
         return false;
@@ -80,6 +102,14 @@ bool sb2_sound(const struct sb2_state *s)
     if (s->error_code > 7)
         return false;
     return (s->timers.hold == 0) == !s->host.alarm_mode;
+}
+
+static bool same_minute(const struct sb2_minute *a, const struct sb2_minute *b)
+{
+    for (uint32_t place = 0; place < SB2_SECONDS; place++)
+        if (sb2_second_at(a, place) != sb2_second_at(b, place))
+            return false;
+    return a->count == b->count && a->begun_ms == b->begun_ms && a->begun_total == b->begun_total;
 }
 
 /* Field by field, so that padding doesn't count. */
@@ -105,8 +135,7 @@ bool sb2_same(const struct sb2_state *a, const struct sb2_state *b)
     if (a->latest.voltage != b->latest.voltage || a->latest.current != b->latest.current ||
         a->latest.temperature != b->latest.temperature || a->latest.counter != b->latest.counter)
         return false;
-    if (a->kept.count != b->kept.count ||
-        memcmp(a->kept.current, b->kept.current, sizeof a->kept.current) != 0)
+    if (!same_minute(&a->minute, &b->minute))
         return false;
     if (a->tank.charge != b->tank.charge || a->tank.full_capacity != b->tank.full_capacity ||
         a->tank.cycle_count != b->tank.cycle_count || a->tank.fully_discharged != b->tank.fully_discharged)
@@ -135,13 +164,15 @@ static uint16_t full_word(const struct sb2_state *s)
     return capacity_word(s, full_charge(s));
 }
 
-/* The mean of the kept currents, cut toward zero as C divides (rule: Registers, 0B). */
+/* The mean over the complete seconds, cut toward zero as C divides; with none the latest current (rule: R-2, 0B). */
 static int16_t mean_current(const struct sb2_state *s)
 {
-    int32_t sum = 0;
-    for (uint32_t i = 0; i < s->kept.count; i++)
-        sum += s->kept.current[i];
-    return (int16_t)(sum / (int32_t)s->kept.count);
+    int64_t sum = 0;
+    if (s->minute.count == 0)
+        return s->latest.current;
+    for (uint32_t place = 0; place < s->minute.count; place++)
+        sum += sb2_second_at(&s->minute, place);
+    return (int16_t)(sum / ((int64_t)s->minute.count * SB2_SECOND_MS));
 }
 
 /* Whole minutes at a rate, at most 65,534, and so for a rate of 0 (rule: Registers, 06 and 11 to 13). */

@@ -51,7 +51,8 @@ enum {
     SB2_NAME_MOST = 32,
     SB2_MESSAGE_MOST = 37,
     SB2_CAPTURE_MOST = 1 + 255 * 39,
-    SB2_KEPT = 60,
+    SB2_SECONDS = 60, /* of the minute in AverageCurrent */
+    SB2_SECOND_MS = 1000,
     SB2_HOLD_MS = 60000,
     SB2_ALARM_MS = 10000,
     SB2_CHARGER_MS = 30000,
@@ -92,10 +93,13 @@ struct sb2_sample {
     uint32_t counter;     /* ms, wraps */
 };
 
-/* The currents of the last samples, the newest first. */
-struct sb2_kept {
-    int16_t current[SB2_KEPT];
-    uint32_t count;
+/* The last minute, second by second, since set-up: of each second the total of current x time, in mA·ms. */
+struct sb2_minute {
+    int32_t total[SB2_SECONDS]; /* a ring: the oldest stands behind the newest */
+    uint32_t newest;            /* where in the ring the newest complete second stands */
+    uint32_t count;             /* complete seconds kept */
+    uint32_t begun_ms;          /* how much of the next second has passed */
+    int32_t begun_total;        /* and its total */
 };
 
 /* The charge and what goes with it. */
@@ -119,7 +123,7 @@ struct sb2_state {
     struct sb2_settings settings;
     struct sb2_host host;
     struct sb2_sample latest;
-    struct sb2_kept kept;
+    struct sb2_minute minute;
     struct sb2_tank tank;
     struct sb2_timers timers;
 };
@@ -144,10 +148,10 @@ struct sb2_set_up {
 /* Makes a state: answers 0, or 11 with the all-zero state (rule: Answer numbers, 11). */
 int sb2_set_up(struct sb2_state *state, const struct sb2_set_up *in);
 
-/* Tells whether a state is sound (rule: Answer numbers, last paragraph). */
+/* Tells whether a state is sound (rules: Answer numbers, last paragraph; R-2). */
 bool sb2_sound(const struct sb2_state *state);
 
-/* Tells whether two states agree in every field, unused kept currents too. */
+/* Tells whether two states agree in every field, unused seconds too; where in the ring they stand doesn't count. */
 bool sb2_same(const struct sb2_state *a, const struct sb2_state *b);
 
 /* Packs a date as ManufactureDate does (002, 5.1.26). */
@@ -193,7 +197,8 @@ int sb2_transact(struct sb2_state *state, bool read, struct sb2_bytes message, s
  *   latest    voltage, current and temperature of the latest sample; its counter, four bytes
  *   tank      charge, eight bytes; full capacity; cycle count; the flag of bit 4
  *   timers    hold, alarm timer and charger timer, four bytes each
- *   recent    the 60 kept currents, newest first; how many are kept, one byte */
+ *   recent    60 totals of complete seconds, newest first, four bytes each, in two's complement; how many are kept, one
+ *             byte; the begun second's milliseconds, two bytes, and its total, four */
 enum {
     SB2_SETTINGS_AT = 1,
     SB2_HOST_AT = SB2_SETTINGS_AT + 18,
@@ -201,13 +206,13 @@ enum {
     SB2_TANK_AT = SB2_LATEST_AT + 10,
     SB2_TIMERS_AT = SB2_TANK_AT + 13,
     SB2_RECENT_AT = SB2_TIMERS_AT + 12,
-    SB2_AREA = SB2_RECENT_AT + 121, /* the bytes of an area */
+    SB2_AREA = SB2_RECENT_AT + 247, /* the bytes of an area */
 };
 
 /* Reads an area; false, and no state, if it has another size or a flag byte over 1. */
 bool sb2_area_load(struct sb2_bytes area, struct sb2_state *state);
 
-/* Writes a state; its error code and count must fit a byte. */
+/* Writes a state; its error code and count must fit a byte, the begun second's milliseconds two. */
 void sb2_area_store(const struct sb2_state *state, uint8_t area[SB2_AREA]);
 
 /* The four entries over an area. Bytes that are no area answer 1, and only answers that leave a state write it. */

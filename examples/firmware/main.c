@@ -201,7 +201,8 @@ void board_send(const uint8_t message[4])
 
 /* ---- EEPROM */
 
-static uint8_t eeprom[256];
+static uint8_t eeprom[512];
+_Static_assert(sizeof eeprom > SNATCHBLOCK_AREA, "the area and its PEC fit");
 
 void board_eeprom_read(uint8_t *to, size_t length)
 {

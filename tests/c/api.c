@@ -126,10 +126,9 @@ static void layout(void)
                              0x00, 0x48, 0x27, 0xAD, 1, 0, 0, 0, 0xA0, 0x0F, 7, 0, 0, 0, 0, 0, 0, 0x10, 0x27, 0, 0, 0, 0, 0, 0};
     CHECK(sizeof front, SNATCHBLOCK_RECENT);
     CHECK(memcmp(area, front, sizeof front), 0);
-    for (size_t i = SNATCHBLOCK_RECENT; i < SNATCHBLOCK_AREA - 1; i++)
+    for (size_t i = SNATCHBLOCK_RECENT; i < SNATCHBLOCK_AREA; i++)
         CHECK(area[i], 0);
-    CHECK(area[SNATCHBLOCK_AREA - 1], 1);
-    CHECK(SNATCHBLOCK_AREA, 186);
+    CHECK(SNATCHBLOCK_AREA, 312);
 }
 
 static void put(size_t at, size_t bytes, uint64_t value)
@@ -162,8 +161,9 @@ static void soundness(void)
     border(SNATCHBLOCK_HOST + 8, 1, 0, 1); /* ALARM_MODE without a hold */
     border(SNATCHBLOCK_HOST + 9, 1, 1, 2);
     border(SNATCHBLOCK_HOST + 10, 1, 1, 2);
-    border(SNATCHBLOCK_RECENT + 120, 1, 1, 0);
-    border(SNATCHBLOCK_RECENT + 120, 1, 60, 61);
+    border(SNATCHBLOCK_RECENT + 240, 1, 60, 61);
+    border(SNATCHBLOCK_RECENT + 241, 2, 999, 1000);
+    border(SNATCHBLOCK_RECENT + 243, 4, 0, 1); /* a total without a begun second */
     border(SNATCHBLOCK_TANK, 8, 4000ull * 3600000, 4000ull * 3600000 + 1);
     border(SNATCHBLOCK_TANK, 8, 0, UINT64_MAX);
     border(SNATCHBLOCK_TANK + 8, 2, 2000, 0);
@@ -231,10 +231,10 @@ static void samples(void)
     CHECK(read_word(0x03), 0x2000);
     CHECK(sample(14800, 0, 2981, 70004), PACKED(0, 4));
     CHECK(read_word(0x03), 0);
-    /* worked example 12: the mean of -5 and 2 is -1 */
-    memset(area_memory, MARK, sizeof area_memory);
-    CHECK(set_up_in(SNATCHBLOCK_AREA, usual, -5, 0), 0);
-    CHECK(sample(14800, 2, 2981, 1000), 0);
+    /* worked example 12: the mean of seconds of -5 and 2 is -1 */
+    usual_pack();
+    CHECK(sample(14800, -5, 2981, 1000), 0);
+    CHECK(sample(14800, 2, 2981, 2000), 0);
     CHECK(read_word(0x0B), 0xFFFF);
     /* an unsound area answers 1 before a small room's 2 */
     area[0] = 8;
@@ -886,7 +886,7 @@ static void answer_names(void)
     CHECK(sizeof names / sizeof *names, 18);
     for (unsigned i = 0; i < 18; i++)
         CHECK(names[i], i);
-    CHECK(SNATCHBLOCK_VERSION, 1);
+    CHECK(SNATCHBLOCK_VERSION, 2);
 }
 
 static uint32_t number_at(size_t at, size_t bytes)

@@ -205,7 +205,7 @@ static bool faults(uint8_t *area, const struct call *c)
     return WIFEXITED(status) && WEXITSTATUS(status) == FAULT;
 }
 
-/* A served write stores what the host wrote and the timers, so none of the recent currents; a served sample all. */
+/* A served write stores what the host wrote and the timers, so none of the recent seconds; a served sample all. */
 static void shown(void)
 {
     for (unsigned command = 0x00; command <= 0x04; command++) {

@@ -15,7 +15,7 @@
 #include <sys/mman.h>
 #include <unistd.h>
 
-enum { LEAST = 1000000, USUAL = 2000000, GUARD = 16, AREA_MOST = 372, ROOM_MOST = 200, PAGE = 4096, LENT_PAGES = 4 };
+enum { LEAST = 1000000, USUAL = 2000000, GUARD = 16, AREA_MOST = 624, OLD_AREA = 186, ROOM_MOST = 200, PAGE = 4096, LENT_PAGES = 4 };
 
 static uint64_t seed, calls, wanted_calls;
 
@@ -296,7 +296,11 @@ enum other {
     SHELF_OF_MORE = SHELF_OF + 65, SHELF_LOWEST = SHELF_OF_MORE + 3, SHELF_TIE = SHELF_LOWEST + 64,
     SHELF_NEAR = SHELF_TIE + 2, SHELF_FIFTH = SHELF_NEAR + 3, SHELF_EDGE = SHELF_FIFTH + 5,
     SHELF_BAD_ROW = SHELF_EDGE + 4, SHELF_BAD_TWICE = SHELF_BAD_ROW + 3 * 64, SHELF_RAGGED = SHELF_BAD_TWICE + 2,
-    SHELF_ROOM = SHELF_RAGGED + 7, SHELF_ORDER = SHELF_ROOM + 21, OTHERS = SHELF_ORDER + 6
+    SHELF_ROOM = SHELF_RAGGED + 7, SHELF_ORDER = SHELF_ROOM + 21, RUN_OF = SHELF_ORDER + 6, RUN_LONG = RUN_OF + 7,
+    SECONDS_DONE, SECONDS_KEPT = SECONDS_DONE + 9, WRAP_IN_SECOND = SECONDS_KEPT + 61, MEAN_OF,
+    MINUTE_COUNT = MEAN_OF + 8, MINUTE_MS = MINUTE_COUNT + 6, MINUTE_BEGUN = MINUTE_MS + 5,
+    MINUTE_UNDER = MINUTE_BEGUN + 5, MINUTE_OVER = MINUTE_UNDER + 5 * 60, AREA_OF_OLD = MINUTE_OVER + 5 * 60,
+    OTHERS = AREA_OF_OLD + 3
 };
 static uint64_t other[OTHERS];
 
@@ -316,9 +320,24 @@ static struct sb2_bytes bytes_of(const uint8_t *at, size_t length)
     return (struct sb2_bytes){at, length};
 }
 
+/* Mostly the right size; at times another, the one of version 1 among them. */
 static size_t area_size(void)
 {
-    return one_in(40) ? below(AREA_MOST + 1) : SNATCHBLOCK_AREA;
+    if (!one_in(40))
+        return SNATCHBLOCK_AREA;
+    return one_in(4) ? OLD_AREA : below(AREA_MOST + 1);
+}
+
+/* Where the area keeps the minute: 60 totals, how many count, the begun second's ms and its total. */
+enum { TOTALS_AT = SNATCHBLOCK_RECENT, KEPT_AT = TOTALS_AT + 4 * SB2_SECONDS, BEGUN_MS_AT = KEPT_AT + 1,
+       BEGUN_AT = BEGUN_MS_AT + 2 };
+
+static uint32_t number_at(size_t at, size_t bytes)
+{
+    uint32_t value = 0;
+    for (size_t i = 0; i < bytes; i++)
+        value |= (uint32_t)state_area[at + i] << 8 * i;
+    return value;
 }
 
 static size_t room_size(size_t least)
@@ -374,9 +393,10 @@ static void play_set_up(bool likely)
     keep_area();
 }
 
-static void play_sound(void)
+static void play_sound(size_t length)
 {
-    size_t length = area_size();
+    if (length == OLD_AREA)
+        other[AREA_OF_OLD]++;
     lend_area(state_area, length);
     begin("sound", 0, READS_AREA, false);
     bool proved = snatchblock_sound(area.p, length);
@@ -387,7 +407,8 @@ static void play_sound(void)
 
 static uint32_t some_elapsed(void)
 {
-    static const uint32_t edges[] = {0, 1, 1000, 9999, 10000, 10001, 29999, 30000, 30001, 59999, 60000, 60001};
+    static const uint32_t edges[] = {0,     1,     999,   1000,  1001,  9999,  10000, 10001,
+                                     29999, 30000, 30001, 59999, 60000, 60001, 61000, 0xFFFFFFFF};
     switch (below(8)) {
     case 0: return edges[below(sizeof edges / sizeof *edges)];
     case 1: return (uint32_t)draw();
@@ -421,23 +442,26 @@ static void note_messages(size_t length, uint32_t before, uint32_t after, bool h
                 other[ALARM_BIT + bit]++;
 }
 
-static void play_sample(bool whole)
+/* How many seconds a served sample completed, and how many are kept now. */
+static void note_seconds(uint32_t elapsed, bool wrapped)
 {
-    struct sb2_state state;
-    struct sb2_sample sample = {some_word(), some_current(), some_word(), 0};
-    uint32_t before = 0;
+    uint64_t done = ((uint64_t)number_at(BEGUN_MS_AT, 2) + elapsed) / 1000;
+    unsigned class = done < 2 ? (unsigned)done : done < 59 ? 2 : done < 62 ? (unsigned)done - 56 : 6;
+    if (done >= 4294967)
+        class = (unsigned)(done - 4294967) + 7;
+    other[SECONDS_DONE + class]++;
+    other[SECONDS_KEPT + area.s[KEPT_AT]]++;
+    if (wrapped && done > 0 && number_at(BEGUN_MS_AT, 2) > 0)
+        other[WRAP_IN_SECOND]++;
+}
+
+/* Gives both the sample, and tells whether it was served. */
+static bool play_given_sample(struct sb2_sample sample, size_t length, size_t room_length)
+{
+    uint32_t before = number_at(SNATCHBLOCK_LATEST + 6, 4);
     bool held = state_area[SNATCHBLOCK_HOST + 8] == 1;
-    if (sb2_area_load(bytes_of(state_area, SNATCHBLOCK_AREA), &state)) {
-        before = state.latest.counter;
-        if (one_in(2)) { /* near the limits of this pack */
-            sample.temperature = (uint16_t)(state.settings.temperature_limit + below(3) - 1);
-            sample.voltage = (uint16_t)(state.settings.discharge_limit + below(3) - 1);
-        }
-    }
-    sample.counter = before + some_elapsed();
-    size_t length = whole ? SNATCHBLOCK_AREA : area_size();
     lend_area(state_area, length);
-    lend_room(room_size(SB2_BROADCAST_ROOM));
+    lend_room(room_length);
     begin("sample", 0, WRITES_AREA, true);
     note(sample.voltage), note((uint16_t)sample.current), note(sample.temperature), note(sample.counter);
     size_t sent;
@@ -446,11 +470,31 @@ static void play_sample(bool whole)
     int answer = sb2_area_take_sample(area.s, length, &sample, room.s, room.length, &sent);
     compare(proved, (uint32_t)answer | (uint32_t)sent << 8);
     came_up(SAMPLE, (uint32_t)answer);
+    if (length == OLD_AREA)
+        other[AREA_OF_OLD + 1]++;
     if (answer == SB2_SERVED) {
         note_messages(sent, before, sample.counter, held);
         note_bit_4(state_area[SNATCHBLOCK_TANK + 12] == 1);
+        note_seconds(sample.counter - before, sample.counter < before);
     }
     keep_area();
+    return answer == SB2_SERVED;
+}
+
+static void play_sample(bool whole)
+{
+    struct sb2_state state;
+    struct sb2_sample sample = {some_word(), some_current(), some_word(), 0};
+    uint32_t before = 0;
+    if (sb2_area_load(bytes_of(state_area, SNATCHBLOCK_AREA), &state)) {
+        before = state.latest.counter;
+        if (one_in(2)) { /* near the limits of this pack */
+            sample.temperature = (uint16_t)(state.settings.temperature_limit + below(3) - 1);
+            sample.voltage = (uint16_t)(state.settings.discharge_limit + below(3) - 1);
+        }
+    }
+    sample.counter = before + some_elapsed();
+    (void)play_given_sample(sample, whole ? SNATCHBLOCK_AREA : area_size(), room_size(SB2_BROADCAST_ROOM));
 }
 
 static uint8_t some_command(void)
@@ -515,10 +559,10 @@ static void note_word(uint8_t command, bool power, uint16_t word)
         other[(word >> bit & 1 ? STATUS_SET : STATUS_CLEAR) + bit]++;
 }
 
-static void play_message(const uint8_t *message, size_t message_length, bool read, size_t length)
+static void play_message_in(size_t room_length, const uint8_t *message, size_t message_length, bool read, size_t length)
 {
     lend_area(state_area, length);
-    lend_room(room_size(SB2_REPLY_ROOM));
+    lend_room(room_length);
     struct sb2_bytes s = lend(0, service, service_length);
     struct sb2_bytes f = lend(1, factory, factory_length);
     struct sb2_bytes m = lend(2, message, message_length);
@@ -530,6 +574,8 @@ static void play_message(const uint8_t *message, size_t message_length, bool rea
     int answer = sb2_area_transact(area.s, length, read, m, s, f, room.s, room.length, &sent);
     compare(proved, (uint32_t)answer | (uint32_t)sent << 8);
     came_up(TRANSACT, (uint32_t)answer);
+    if (length == OLD_AREA)
+        other[AREA_OF_OLD + 2]++;
     if (answer == SB2_SERVED || answer == SB2_OVERFLOW) {
         bool power = state_area[SNATCHBLOCK_HOST + 10] == 1;
         other[read ? READ_SERVED + 64 * power + message[1] : WRITE_SERVED + 5 * power + message[1]]++;
@@ -537,6 +583,11 @@ static void play_message(const uint8_t *message, size_t message_length, bool rea
             note_word(message[1], power, (uint16_t)(room.s[0] | room.s[1] << 8));
     }
     keep_area();
+}
+
+static void play_message(const uint8_t *message, size_t message_length, bool read, size_t length)
+{
+    play_message_in(room_size(SB2_REPLY_ROOM), message, message_length, read, length);
 }
 
 static void play_transact(bool whole)
@@ -655,7 +706,7 @@ static void play_life(void)
         else
             play_transact(!one_in(60));
     }
-    play_sound();
+    play_sound(area_size());
 }
 
 static void put(size_t at, size_t bytes, uint64_t value)
@@ -664,17 +715,45 @@ static void put(size_t at, size_t bytes, uint64_t value)
         state_area[at + i] = (uint8_t)(value >> 8 * i);
 }
 
+/* A total at a border of what so many ms can give, or one beyond it: above 0, then below. The fifth is any number. */
+enum { BORDERS = 5 };
+static uint64_t border_total(unsigned border, uint32_t ms)
+{
+    const int64_t most = INT64_C(32767) * ms, least = INT64_C(-32768) * ms;
+    const int64_t totals[BORDERS - 1] = {most, most + 1, least, least - 1};
+    return border < BORDERS - 1 ? (uint64_t)totals[border] : draw();
+}
+
+/* A total that so many ms can give. */
+static uint64_t some_total(uint32_t ms)
+{
+    if (one_in(8))
+        return border_total(2 * below(2), ms);
+    return border_total(2, ms) + below(65535 * ms + 1);
+}
+
+/* Any minute that is sound; beyond the count stands anything. */
+static void some_minute(void)
+{
+    uint32_t count = one_in(3) ? SB2_SECONDS : below(SB2_SECONDS + 1), ms = below(1000);
+    for (uint32_t place = 0; place < SB2_SECONDS; place++)
+        put(TOTALS_AT + 4 * place, 4, place < count ? some_total(1000) : draw());
+    put(KEPT_AT, 1, count);
+    put(BEGUN_MS_AT, 2, ms);
+    put(BEGUN_AT, 4, some_total(ms));
+}
+
 /* Changes one field of the area to a value at one of its borders, or to anything. */
 static void bend_area(void)
 {
     uint64_t full = (uint64_t)(state_area[SNATCHBLOCK_TANK + 8] | state_area[SNATCHBLOCK_TANK + 9] << 8) * SB2_MS_PER_HOUR;
-    switch (below(14)) {
+    switch (below(17)) {
     case 0: put(0, 1, 5 + below(5)); break;
     case 1: put(SNATCHBLOCK_HOST + 8, 1, below(3)); break;
     case 2: put(SNATCHBLOCK_HOST + 9, 1, below(3)); break;
     case 3: put(SNATCHBLOCK_HOST + 10, 1, below(3)); break;
     case 4: put(SNATCHBLOCK_TANK + 12, 1, below(3)); break;
-    case 5: put(SNATCHBLOCK_RECENT + 120, 1, one_in(2) ? below(3) : 59 + below(4)); break;
+    case 5: put(KEPT_AT, 1, one_in(2) ? below(3) : 59 + below(4)); break;
     case 6: put(SNATCHBLOCK_TANK, 8, full - 1 + below(3)); break;
     case 7: put(SNATCHBLOCK_TANK, 8, one_in(2) ? below(2) : draw() >> below(64)); break;
     case 8: put(SNATCHBLOCK_TIMERS, 4, one_in(2) ? below(3) : 59999 + below(3)); break;
@@ -682,6 +761,9 @@ static void bend_area(void)
     case 10: put(SNATCHBLOCK_TIMERS + 8, 4, one_in(2) ? below(3) : 29998 + below(3)); break;
     case 11: put(SNATCHBLOCK_SETTINGS + 2 * below(9), 2, below(3)); break;
     case 12: put(SNATCHBLOCK_TANK + 8, 2, below(3)); break;
+    case 13: put(BEGUN_MS_AT, 2, one_in(2) ? below(3) : 998 + below(4)); break;
+    case 14: put(BEGUN_AT, 4, border_total(below(BORDERS), number_at(BEGUN_MS_AT, 2))); break;
+    case 15: put(TOTALS_AT + 4 * below(SB2_SECONDS), 4, border_total(below(BORDERS), 1000)); break;
     default: state_area[below(SNATCHBLOCK_AREA)] = (uint8_t)draw(); break;
     }
 }
@@ -710,7 +792,7 @@ static void play_at_rate_ok(void)
     play_message(message, 3, true, SNATCHBLOCK_AREA);
 }
 
-/* Reads the times at the slowest rates, AtRate, current and mean 1 or -1. */
+/* Reads the times at the slowest rates, AtRate, current and mean 1 or -1, the mean with a second kept and with none. */
 static void play_times(void)
 {
     static const uint8_t times[] = {0x05, 0x06, 0x11, 0x12, 0x13};
@@ -718,7 +800,8 @@ static void play_times(void)
     put(SNATCHBLOCK_HOST + 6, 2, slow);
     put(SNATCHBLOCK_HOST + 10, 1, below(2));
     put(SNATCHBLOCK_LATEST + 2, 2, slow);
-    put(SNATCHBLOCK_RECENT, 2, slow);
+    put(TOTALS_AT, 4, (uint64_t)(slow == 1 ? 1000 : -1000));
+    put(KEPT_AT, 1, below(2));
     for (size_t i = 0; i < sizeof times; i++) {
         const uint8_t ask[3] = {0x16, times[i], 0x17};
         play_message(ask, 3, true, SNATCHBLOCK_AREA);
@@ -750,8 +833,10 @@ static void play_areas(void)
         for (uint32_t bends = below(4); bends > 0; bends--)
             bend_area();
         if (one_in(2))
-            fill(state_area + SNATCHBLOCK_RECENT, 120); /* kept currents, those beyond the count too */
-        play_sound();
+            some_minute();
+        for (uint32_t bends = one_in(2) ? below(3) : 0; bends > 0; bends--)
+            bend_area();
+        play_sound(area_size());
         if (one_in(2))
             play_sample(false);
         else
@@ -768,6 +853,157 @@ static void play_areas(void)
     play_times();
     for (int i = 0; i < 8; i++)
         play_set_up(false);
+}
+
+/* ---- the minute */
+
+/* The area in each entry that looks at it; it stays as it is. */
+static void play_minute_area(void)
+{
+    static const uint8_t ask[3] = {0x16, 0x0B, 0x17};
+    uint8_t kept[SNATCHBLOCK_AREA];
+    memcpy(kept, state_area, sizeof kept);
+    play_sound(SNATCHBLOCK_AREA);
+    play_message_in(SB2_REPLY_ROOM, ask, 3, true, SNATCHBLOCK_AREA);
+    memcpy(state_area, kept, sizeof kept);
+    struct sb2_sample sample = {some_word(), some_current(), some_word(),
+                                number_at(SNATCHBLOCK_LATEST + 6, 4) + some_elapsed()};
+    (void)play_given_sample(sample, SNATCHBLOCK_AREA, SB2_BROADCAST_ROOM);
+    memcpy(state_area, kept, sizeof kept);
+}
+
+/* Counts and ms at their borders, and the begun total at both of its own. */
+static void play_bent_minutes(void)
+{
+    const uint32_t counts[6] = {59, 60, 61, 62, 255, 63 + below(192)};
+    for (size_t i = 0; i < 6; i++) {
+        some_minute();
+        for (uint32_t place = 0; place < SB2_SECONDS; place++)
+            put(TOTALS_AT + 4 * place, 4, some_total(1000)); /* so that the count alone can be wrong */
+        put(KEPT_AT, 1, counts[i]);
+        play_minute_area();
+        other[MINUTE_COUNT + i]++;
+    }
+    for (unsigned i = 0; i < 5; i++) {
+        some_minute();
+        put(BEGUN_MS_AT, 2, i < 4 ? 998 + i : 1002 + below(65536 - 1002));
+        put(BEGUN_AT, 4, one_in(2) ? 0 : some_total(998)); /* so that the ms alone can be wrong */
+        play_minute_area();
+        other[MINUTE_MS + i]++;
+    }
+    for (unsigned border = 0; border < BORDERS; border++) {
+        some_minute();
+        put(BEGUN_AT, 4, border_total(border, number_at(BEGUN_MS_AT, 2)));
+        play_minute_area();
+        other[MINUTE_BEGUN + border]++;
+    }
+}
+
+/* In each of the 60 places a total at each border, under the count and beyond it. */
+static void play_each_second(void)
+{
+    for (uint32_t place = 0; place < SB2_SECONDS; place++)
+        for (unsigned border = 0; border < BORDERS; border++)
+            for (int over = 0; over < 2; over++) {
+                some_minute();
+                uint32_t count = over ? below(place + 1) : place + 1 + below(SB2_SECONDS - place);
+                for (uint32_t i = 0; i < count; i++)
+                    put(TOTALS_AT + 4 * i, 4, some_total(1000));
+                put(TOTALS_AT + 4 * place, 4, border_total(border, 1000));
+                put(KEPT_AT, 1, count);
+                play_minute_area();
+                other[(over ? MINUTE_OVER : MINUTE_UNDER) + BORDERS * place + border]++;
+            }
+}
+
+/* What runs of samples differ in: the time between two. */
+enum run { AT_250, AT_1000, AT_999, AT_61000, AT_HOURS, OVER_WRAP, MIXED, RUNS };
+
+static uint32_t run_step(enum run run)
+{
+    static const uint32_t usual[] = {250, 1000, 999, 61000};
+    switch (run) {
+    case AT_HOURS: return one_in(4) ? 0xFFFFFFFFu - below(1000) : 3600000u * below(1193) + below(2000);
+    case OVER_WRAP: return one_in(2) ? 250 : 1 + below(2500);
+    case MIXED: return one_in(2) ? some_elapsed() : below(one_in(2) ? 1100 : 70000);
+    default: return usual[run];
+    }
+}
+
+/* What AverageCurrent shows, and what it would mislead by. */
+static void note_mean(void)
+{
+    uint32_t count = state_area[KEPT_AT];
+    int64_t sum = 0, begun = (int32_t)number_at(BEGUN_AT, 4), ms = number_at(BEGUN_MS_AT, 2);
+    for (uint32_t place = 0; place < count; place++)
+        sum += (int32_t)number_at(TOTALS_AT + 4 * place, 4);
+    int64_t length = 1000 * (int64_t)count;
+    if (count == 0) {
+        other[MEAN_OF]++;
+        return;
+    }
+    other[MEAN_OF + (sum % length == 0 ? 1 : sum < 0 ? 2 : 3)]++;
+    if (sum / length == -32768)
+        other[MEAN_OF + 4]++;
+    if (sum / length == 32767)
+        other[MEAN_OF + 5]++;
+    if (sum / length != (sum + begun) / (length + ms))
+        other[MEAN_OF + 6]++;
+    if (sum / length != (int16_t)number_at(SNATCHBLOCK_LATEST + 2, 2))
+        other[MEAN_OF + 7]++;
+}
+
+static int16_t run_current(void)
+{
+    switch (below(4)) {
+    case 0: return (int16_t)((int32_t)below(21) - 10);
+    case 1: return (int16_t)((int32_t)below(4001) - 2000);
+    case 2: return one_in(2) ? -32768 : 32767;
+    default: return some_current();
+    }
+}
+
+/* Samples of one kind, and 0B, 12, 13 and 16 read after each; a current stays for one sample or for many. */
+static void play_run(enum run run, uint32_t samples)
+{
+    static const uint8_t commands[4] = {0x0B, 0x12, 0x13, 0x16};
+    static const uint32_t stays[4] = {1, 4, 60, 300};
+    uint32_t stay = stays[below(4)];
+    play_set_up(true);
+    put(SNATCHBLOCK_HOST + 10, 1, below(2));
+    if (run == OVER_WRAP)
+        put(SNATCHBLOCK_LATEST + 6, 4, 0xFFFFFFFFu - below(1000 * (samples + 1)));
+    struct sb2_sample sample = {some_word(), run_current(), some_word(), 0};
+    for (uint32_t i = 0; i < samples; i++) {
+        if (one_in(stay))
+            sample.current = run_current();
+        sample.counter = number_at(SNATCHBLOCK_LATEST + 6, 4) + run_step(run);
+        if (play_given_sample(sample, SNATCHBLOCK_AREA, one_in(40) ? room_size(SB2_BROADCAST_ROOM) : SB2_BROADCAST_ROOM))
+            other[RUN_OF + run]++;
+        for (size_t j = 0; j < 4; j++) {
+            const uint8_t ask[3] = {0x16, commands[j], 0x17};
+            play_message_in(SB2_REPLY_ROOM, ask, 3, true, SNATCHBLOCK_AREA);
+        }
+        note_mean();
+        if (one_in(40))
+            play_time_alarm();
+    }
+    play_sound(SNATCHBLOCK_AREA);
+}
+
+static void play_minutes(void)
+{
+    static unsigned long plays;
+    for (int run = 0; run < RUNS; run++)
+        play_run((enum run)run, 1 + below(one_in(8) ? 300 : 12));
+    play_set_up(true);
+    play_bent_minutes();
+    if (plays % 8 == 0)
+        play_each_second();
+    if (plays++ % 32 == 0) {
+        play_run((enum run)below(RUNS), 2000 + below(3000));
+        other[RUN_LONG]++;
+    }
 }
 
 /* ---- check bytes */
@@ -1285,7 +1521,8 @@ static void play_shelf(void)
 
 static void play(void)
 {
-    switch (below(11)) {
+    switch (below(12)) {
+    case 11: play_minutes(); break;
     case 0: case 1: case 2: play_life(); break;
     case 3: case 4: play_areas(); break;
     case 5: for (int i = 0; i < 20; i++) play_checks(); break;
@@ -1390,6 +1627,22 @@ static bool tally(void)
         {"1 to 7 bytes behind the rows", SHELF_RAGGED, SHELF_RAGGED + 6},
         {"rooms of 0 to 20 bytes", SHELF_ROOM, SHELF_ROOM + 20},
         {"each two of 2, 4, 16 and 17 at once", SHELF_ORDER, SHELF_ORDER + 5},
+        {"samples at 250, 1,000, 999, 61,000 ms", RUN_OF, RUN_OF + 3},
+        {"at hours, over the counter's wrap, mixed", RUN_OF + 4, RUN_OF + 6},
+        {"runs of thousands of samples", RUN_LONG, RUN_LONG},
+        {"samples that complete 0, 1, 2 to 58, 59, 60, 61 s", SECONDS_DONE, SECONDS_DONE + 5},
+        {"more; 4,294,967 s; 4,294,968 s", SECONDS_DONE + 6, SECONDS_DONE + 8},
+        {"0 to 60 seconds kept", SECONDS_KEPT, SECONDS_KEPT + 60},
+        {"a second begun before the counter's wrap", WRAP_IN_SECOND, WRAP_IN_SECOND},
+        {"0B: the latest, exact, cut below 0, above 0", MEAN_OF, MEAN_OF + 3},
+        {"0B: -32,768, 32,767", MEAN_OF + 4, MEAN_OF + 5},
+        {"0B: not as with the begun second, not the latest", MEAN_OF + 6, MEAN_OF + 7},
+        {"counts of 59, 60, 61, 62, 255, 63 to 254", MINUTE_COUNT, MINUTE_COUNT + 5},
+        {"begun seconds of 998 to 1,001 ms and of more", MINUTE_MS, MINUTE_MS + 4},
+        {"begun totals at both borders, one beyond, any", MINUTE_BEGUN, MINUTE_BEGUN + 4},
+        {"totals so in each place under the count", MINUTE_UNDER, MINUTE_UNDER + 5 * 60 - 1},
+        {"and in each place beyond it", MINUTE_OVER, MINUTE_OVER + 5 * 60 - 1},
+        {"areas of version 1: sound, sample, transact", AREA_OF_OLD, AREA_OF_OLD + 2},
     };
     for (size_t i = 0; i < sizeof lines / sizeof *lines; i++)
         all = count_other(lines[i].name, lines[i].first, lines[i].last) && all;

@@ -1,7 +1,7 @@
 /* Holds the second program to published facts: document 01's worked examples
  * and tables, both packets of source document 001, the check word of CRC-8 and
  * the values that 002 works out. Then to properties that document 01 states, and
- * to tables worked by hand from the words of request R-1. */
+ * to figures worked by hand from the words of requests R-1 and R-2. */
 #include "../../second/snatchblock2.h"
 
 #include <stdio.h>
@@ -146,10 +146,9 @@ static void worked_examples(void)
     CHECK(put(&s, 0x03, 0x8000), 0); /* 10 */
     CHECK(word(&s, 0x0F), 2960);
     CHECK(sb2_elapsed(4294967290u, 4), 10); /* 11 */
-    struct sb2_set_up in = usual;           /* 12 */
-    in.first.current = -5;
-    s = made(in);
-    sample(&s, 14800, 2, 0, 0, NULL);
+    s = made(usual);                        /* 12 */
+    sample(&s, 14800, -5, 0, 1000, NULL);
+    sample(&s, 14800, 2, 0, 2000, NULL);
     CHECK(word(&s, 0x0B), 0xFFFF);
 }
 
@@ -389,9 +388,23 @@ static void answers_in_order(void)
     SOUND(t.tank.charge = UINT64_C(4000) * 3600000, true);
     SOUND(t.tank.charge = UINT64_C(4000) * 3600000 + 1, false);
     SOUND(t.tank.charge = UINT64_MAX, false);
-    SOUND(t.kept.count = 0, false);
-    SOUND(t.kept.count = 60, true);
-    SOUND(t.kept.count = 61, false);
+    SOUND(t.minute.count = 60, true);
+    SOUND(t.minute.count = 61, false);
+    SOUND((t.minute.count = 1, t.minute.total[0] = 32767000), true);
+    SOUND((t.minute.count = 1, t.minute.total[0] = 32767001), false);
+    SOUND((t.minute.count = 1, t.minute.total[0] = -32768000), true);
+    SOUND((t.minute.count = 1, t.minute.total[0] = -32768001), false);
+    SOUND((t.minute.count = 60, t.minute.total[1] = -32768001), false); /* the oldest, the ring starting at 0 */
+    SOUND((t.minute.count = 59, t.minute.total[1] = -32768001), true);  /* not looked at */
+    SOUND((t.minute.total[0] = INT32_MAX), true);
+    SOUND(t.minute.begun_ms = 999, true);
+    SOUND(t.minute.begun_ms = 1000, false);
+    SOUND(t.minute.begun_total = 1, false);
+    SOUND(t.minute.begun_total = -1, false);
+    SOUND((t.minute.begun_ms = 1, t.minute.begun_total = 32767), true);
+    SOUND((t.minute.begun_ms = 1, t.minute.begun_total = 32768), false);
+    SOUND((t.minute.begun_ms = 999, t.minute.begun_total = -32735232), true);
+    SOUND((t.minute.begun_ms = 999, t.minute.begun_total = -32735233), false);
     SOUND((t.timers.hold = 60000, t.host.alarm_mode = true), true);
     SOUND((t.timers.hold = 60001, t.host.alarm_mode = true), false);
     SOUND(t.timers.hold = 1, false);
@@ -529,18 +542,22 @@ static void registers(void)
     /* present current in 11, the mean in 12 and 13 and in bit 8 */
     in = usual;
     in.first.current = -1000;
+    in.remaining_capacity = 2002;
     s = made(in);
-    CHECK(word(&s, 0x12), 120);
-    sample(&s, 14800, -3000, 0, 0, NULL);
+    CHECK(word(&s, 0x12), 120); /* no second is complete: the latest current */
+    sample(&s, 14800, -1000, 0, 1000, NULL);
+    sample(&s, 14800, -3000, 0, 2000, NULL);
+    CHECK(word(&s, 0x0F), 2000); /* 2,002 mAh less 4,000,000 mA·ms */
     CHECK(word(&s, 0x11), 40);
     CHECK(word(&s, 0x12), 60);
     CHECK(put(&s, 0x02, 60), 0);
     CHECK(word(&s, 0x16), 0x00C0);
     CHECK(put(&s, 0x02, 61), 0);
     CHECK(word(&s, 0x16), 0x01C0);
-    in.first.current = 1000;
+    in.remaining_capacity = 1999;
     s = made(in);
-    sample(&s, 14800, 3000, 0, 0, NULL);
+    sample(&s, 14800, 1000, 0, 1000, NULL);
+    sample(&s, 14800, 3000, 0, 2000, NULL);
     CHECK(word(&s, 0x13), 60);
 
     /* full and design apart; limits met exactly */
@@ -715,16 +732,104 @@ static void clock_and_broadcasts(void)
     CHECK(s.tank.charge, 360000000);
     CHECK(word(&s, 0x0D), 100);
 
-    /* the mean: over what there is, then over the last 60 */
-    in = usual;
-    in.first.current = 32767;
-    s = made(in);
+}
+
+/* ---- request R-2 */
+
+static int mean_of(struct sb2_state *s)
+{
+    long shown = word(s, 0x0B);
+    return (int)(shown < 0x8000 ? shown : shown - 0x10000);
+}
+
+/* A current that counted for so many ms. */
+static void run(struct sb2_state *s, int16_t current, uint32_t ms)
+{
+    sample(s, 14800, current, 0, s->latest.counter + ms, NULL);
+}
+
+static void the_minute(void)
+{
+    /* none complete: the latest current, set-up's too; the begun second isn't counted */
+    struct sb2_set_up in = usual;
+    in.first.current = -5;
+    in.first.counter = 4294967290u;
+    struct sb2_state s = made(in);
+    CHECK(mean_of(&s), -5);
+    run(&s, 2, 0);
+    CHECK(mean_of(&s), 2);
+    run(&s, -10, 999);
+    CHECK(s.minute.count, 0);
+    CHECK(mean_of(&s), -10);
+    run(&s, 5, 1); /* -10 x 999 + 5 x 1 = -9,985 */
+    CHECK(s.minute.count, 1);
+    CHECK(mean_of(&s), -9);
+    run(&s, 32767, 999);
+    CHECK(mean_of(&s), -9);
+    CHECK(s.minute.begun_total, 32767 * 999);
+
+    /* 400 ms of 100 mA, 1,300 of -50, 300 of 20: seconds of 40,000 - 30,000 and of -35,000 + 6,000 mA·ms */
+    s = made(usual);
+    run(&s, 100, 400);
+    run(&s, -50, 1300);
+    CHECK(mean_of(&s), 10);
+    CHECK(s.minute.begun_ms, 700);
+    CHECK(s.minute.begun_total, -35000);
+    run(&s, 20, 300);
+    CHECK(mean_of(&s), -9); /* -19,000 ÷ 2,000 */
+
+    /* over those there are, then over the last 60 */
+    s = made(usual);
+    run(&s, 32767, 1000);
     for (int i = 0; i < 59; i++)
-        sample(&s, 14800, -7, 0, 0, NULL);
-    CHECK(word(&s, 0x0B), (32767 - 59 * 7) / 60);
-    sample(&s, 14800, -8, 0, 0, NULL);
-    CHECK(s.kept.count, 60);
-    CHECK(word(&s, 0x0B), 0xFFF9);
+        run(&s, -7, 1000);
+    CHECK(mean_of(&s), (32767 - 59 * 7) / 60);
+    CHECK(s.minute.count, 60);
+    run(&s, -8, 1000);
+    CHECK(s.minute.count, 60);
+    CHECK(mean_of(&s), -7); /* -421 ÷ 60 */
+}
+
+static void long_samples(void)
+{
+    struct sb2_state s = made(usual);
+    run(&s, -5, 1000);
+    run(&s, 7, 59000);
+    CHECK(mean_of(&s), 6); /* 408 ÷ 60 */
+    run(&s, 7, 61000);
+    CHECK(mean_of(&s), 7);
+    run(&s, -5, 500);
+    run(&s, 7, 60000); /* -2,500 + 3,500, then 59 seconds of 7,000: 414,000 ÷ 60,000 */
+    CHECK(mean_of(&s), 6);
+    CHECK(s.minute.begun_ms, 500);
+    run(&s, 7, 500);
+    CHECK(mean_of(&s), 7);
+    /* the longest: 4,294,968 seconds with what was begun */
+    run(&s, 1, 999);
+    run(&s, -32768, 4294967295u);
+    CHECK(mean_of(&s), -32768);
+    CHECK(s.minute.begun_ms, 294);
+    CHECK(s.minute.begun_total, -32768 * 294);
+    run(&s, 32767, 4294967295u); /* 294 + 4,294,967,295 ms are 4,294,967 s and 589 ms */
+    CHECK(mean_of(&s), 32767);
+    CHECK(s.minute.begun_ms, 589);
+    CHECK(s.minute.begun_total, 32767 * 589);
+}
+
+/* Four samples a second, -1,000 mA for a minute, then none: 15 s later the old sixty samples had lost the minute. */
+static void the_mechanic(void)
+{
+    struct sb2_state s = made(usual);
+    for (int i = 0; i < 240; i++)
+        run(&s, -1000, 250);
+    CHECK(mean_of(&s), -1000);
+    for (int i = 0; i < 60; i++)
+        run(&s, 0, 250);
+    CHECK(mean_of(&s), -750); /* 45 s of -1,000 and 15 of 0 */
+    run(&s, 0, 999);
+    CHECK(mean_of(&s), -750);
+    run(&s, 0, 1);
+    CHECK(mean_of(&s), -733); /* 44,000 ÷ 60 */
 }
 
 /* ---- document 01, sheets, captures and keys */
@@ -956,6 +1061,44 @@ static struct sb2_sample draw_sample(uint32_t counter)
     return made;
 }
 
+enum { RUN_MS = 400000 };
+
+/* The rule once more, from all samples since set-up: the charge that flowed in each millisecond, summed from the start.
+ * Gives what AverageCurrent has to show at a time. */
+static int by_sums(const int64_t *flowed, uint32_t now, int16_t latest)
+{
+    uint32_t complete = now / 1000, kept = complete < 60 ? complete : 60;
+    if (kept == 0)
+        return latest;
+    return (int)((flowed[1000 * complete] - flowed[1000 * (complete - kept)]) / (1000 * (int64_t)kept));
+}
+
+static void minutes_by_sums(void)
+{
+    static int64_t flowed[RUN_MS + 1];
+    static const uint32_t steps[] = {0, 1, 249, 250, 251, 333, 999, 1000, 1001, 1999, 2000, 59999, 60000, 61000, 61999};
+    unsigned wrong = 0;
+    for (unsigned round = 0; round < 300; round++) {
+        uint32_t now = 0, usual_step = steps[1 + round % 10];
+        struct sb2_state s = made(usual);
+        for (;;) {
+            struct sb2_sample taken = draw_sample(0);
+            uint32_t step = draw() % 8 ? usual_step : steps[draw() % (sizeof steps / sizeof *steps)];
+            uint8_t room[SB2_BROADCAST_ROOM];
+            size_t length;
+            if (step > RUN_MS - now || (step < 10 && draw() % 1000 == 0))
+                break;
+            for (uint32_t i = 0; i < step; i++, now++)
+                flowed[now + 1] = flowed[now] + taken.current;
+            taken.counter = now;
+            wrong += sb2_take_sample(&s, &taken, room, sizeof room, &length) != 0;
+            wrong += mean_of(&s) != by_sums(flowed, now, taken.current);
+            wrong += s.minute.begun_total != flowed[now] - flowed[now - now % 1000];
+        }
+    }
+    CHECK(wrong, 0);
+}
+
 static void long_work(void)
 {
     uint8_t sheet[SB2_SHEET_ROOM];
@@ -975,7 +1118,9 @@ static void long_work(void)
         answers[answer]++;
         broken += sb2_sound(&s) != (answer == 0);
         if (draw() % 8 == 0) /* any state at all */
-            s.kept.count = draw() % 70;
+            s.minute.count = draw() % 70;
+        if (draw() % 8 == 0)
+            s.minute.begun_ms = draw() % 1100;
         if (draw() % 8 == 0)
             s.error_code = draw() % 12;
         if (draw() % 8 == 0)
@@ -1050,12 +1195,13 @@ static void areas(void)
     CHECK(sb2_same(&state, &back), true);
     CHECK(sb2_area_set_up(again, SB2_AREA, &in), 0);
     CHECK(memcmp(area, again, SB2_AREA), 0);
-    /* the bytes at the places that the header names: current, counter, count, alarm timer */
+    /* the bytes at the places that the header names: current, counter, alarm timer */
     CHECK(area[SB2_LATEST_AT + 3], 0x80);
     CHECK(area[SB2_LATEST_AT + 6], 0xF0);
-    CHECK(area[SB2_RECENT_AT + 120], 1);
     CHECK(area[SB2_TIMERS_AT + 4] | area[SB2_TIMERS_AT + 5] << 8, 10000);
-    CHECK(SB2_AREA, 186);
+    for (size_t i = SB2_RECENT_AT; i < SB2_AREA; i++)
+        CHECK(area[i], 0); /* no second, none begun */
+    CHECK(SB2_AREA, 312);
     for (size_t size = 0; size <= sizeof area; size++)
         CHECK(sb2_area_load(bytes(area, size), &back), size == SB2_AREA);
     static const size_t flags[] = {SB2_HOST_AT + 8, SB2_HOST_AT + 9, SB2_HOST_AT + 10, SB2_TANK_AT + 12};
@@ -1069,6 +1215,39 @@ static void areas(void)
     in.full_capacity = 0;
     CHECK(sb2_area_set_up(again, SB2_AREA, &in), 11);
     CHECK(memcmp(area, again, SB2_AREA), 0);
+}
+
+/* The bytes of the minute: two seconds, newest first, and 300 ms of a third; then places beyond the count move on. */
+static void minute_in_area(void)
+{
+    static const uint8_t newest_first[8] = {0xFE, 0xFF, 0xFF, 0xFF, 0xE8, 0x03, 0, 0}; /* -2 and 1,000 mA·ms */
+    static const uint8_t end[7] = {2, 0x2C, 0x01, 0x38, 0xFF, 0xFF, 0xFF};             /* 2; 300 ms; -200 mA·ms */
+    uint8_t area[SB2_AREA], room[SB2_BROADCAST_ROOM];
+    struct sb2_state s = made(usual);
+    size_t length;
+    run(&s, 1, 1000);
+    run(&s, 0, 800);
+    run(&s, 1, 198);
+    run(&s, -100, 2);
+    run(&s, 0, 298);
+    run(&s, -100, 2);
+    sb2_area_store(&s, area);
+    CHECK(memcmp(area + SB2_RECENT_AT, newest_first, 8) == 0, true);
+    for (size_t i = 8; i < 240; i++)
+        CHECK(area[SB2_RECENT_AT + i], 0);
+    CHECK(memcmp(area + SB2_RECENT_AT + 240, end, 7) == 0, true);
+
+    /* a sample completes five: of what stood beyond the count, place 3 moves to 8, 54 to 59, and 55 falls out */
+    area[SB2_RECENT_AT + 12] = area[SB2_RECENT_AT + 4 * 55] = area[SB2_RECENT_AT + 4 * 54] = 0x99;
+    struct sb2_sample later = {14800, 3, 0, 2300 + 4700};
+    CHECK(sb2_area_take_sample(area, SB2_AREA, &later, room, sizeof room, &length), 0);
+    CHECK(area[SB2_RECENT_AT], 3000 & 0xFF);
+    CHECK(area[SB2_RECENT_AT + 4 * 5], 0xFE);
+    CHECK(area[SB2_RECENT_AT + 4 * 8], 0x99);
+    CHECK(area[SB2_RECENT_AT + 4 * 59], 0x99);
+    CHECK(area[SB2_RECENT_AT + 240], 7);
+    CHECK(area[SB2_RECENT_AT + 241] | area[SB2_RECENT_AT + 242] << 8, 0);
+    CHECK(sb2_area_sound(bytes(area, SB2_AREA)), true);
 }
 
 /* ---- request R-1 */
@@ -1221,12 +1400,17 @@ int main(void)
     answers_in_order();
     registers();
     clock_and_broadcasts();
+    the_minute();
+    long_samples();
+    the_mechanic();
     sheets();
     captures();
     steps();
     keys();
     areas();
+    minute_in_area();
     shelf();
+    minutes_by_sums();
     long_work();
     printf("second: %u passed, %u failed\n", passed, failed);
     return failed == 0 ? 0 : 1;
