@@ -31,12 +31,12 @@ pub fn zero() -> Recent
 }
 
 // Whether signed 16-bit currents can give a total in so many milliseconds.
-fn total_sound(ms: u32, total: u32) -> bool
+fn total_sound(ms: u16, total: u32) -> bool
     requires { ⌜ ms ≤ 1000 ⌝ }
     ensures { λ b. ⌜ b ≡ totalSound ms total ⌝ }
 {
-    let raised = std::num::wrapping_add_u32(total, 32768 * ms);
-    raised <= 65535 * ms
+    let raised = std::num::wrapping_add_u32(total, capacity::product16(32768, ms));
+    raised <= capacity::product16(65535, ms)
 }
 
 fn totals_sound(totals: [u32; 60], count: usize) -> bool
@@ -64,7 +64,7 @@ pub fn sound(r: Recent) -> bool
         return false;
     }
     let totals = r.totals;
-    totals_sound(totals, r.count) & total_sound(r.begun as u32, r.total)
+    totals_sound(totals, r.count) & total_sound(r.begun, r.total)
 }
 
 // A signed sum as what came in and what went out.
@@ -133,5 +133,5 @@ pub fn average(r: Recent, latest: u16) -> u16
     }
     let totals = r.totals;
     let s = summed(totals, count);
-    divided(s, 1000 * (count as u32))
+    divided(s, capacity::product16(1000, count as u16))
 }

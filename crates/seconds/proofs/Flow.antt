@@ -80,7 +80,7 @@ greater t p r hp ht e =
     ∙ ap (λ (z : ℤ). ofZ w32 (z +ℤ pos p)) (sym (high32 t h)))
 
 -- at most 32,768 mA for a second
-pub flow-most : (size ms : ℕ) → size ≤ 32768 → ms ≤ 1000 → size * ms ≤ 32768000
+flow-most : (size ms : ℕ) → size ≤ 32768 → ms ≤ 1000 → size * ms ≤ 32768000
 flow-most s ms h k = mul-le-mul {n₁ = s} {m₁ = ms} {n₂ = 32768} {m₂ = 1000} h k
 
 size-high : (c : ℕ) → below c ≡ true → c < 65536 → sizeOf c ≡ suc (65536 - suc c)

@@ -13,7 +13,7 @@ fn flowed(total: u32, current: u16, ms: u32) -> u32
     requires { ⌜ ms ≤ 1000 ⌝ }
     ensures { λ r. ⌜ r ≡ flowedOf total current ms ⌝ }
 {
-    let flow = words::size(current) * ms;
+    let flow = capacity::product16(words::size(current) as u16, ms as u16);
     if words::falls(current) {
         std::num::wrapping_sub_u32(total, flow)
     } else {

@@ -28,17 +28,11 @@ fn wide(x: u16) -> u32
     x as u32
 }
 
-fn product(a: u16, b: u16) -> u32
-    ensures { λ r. ⌜ r ≡ a * b ⌝ }
-{
-    (a as u32) * (b as u32)
-}
-
 // a ÷ b below c ÷ d, with no division and no rounding.
 fn below(a: u16, b: u16, c: u16, d: u16) -> bool
     ensures { λ r. ⌜ r ≡ ltb (a * d) (c * b) ⌝ }
 {
-    product(a, d) < product(c, b)
+    capacity::product16(a, d) < capacity::product16(c, b)
 }
 
 fn nothing(answer: u8) -> Figures
@@ -84,7 +78,7 @@ fn bad(remaining: u16, full: u16, design: u16) -> bool
 fn fifth(remaining: u16, full: u16) -> u32
     ensures { λ r. ⌜ (r ≡ cond (isLow remaining full) 1 0) × (r ≤ 1) ⌝ }
 {
-    if 5 * wide(remaining) < wide(full) {
+    if capacity::product16(5, remaining) < wide(full) {
         return 1;
     }
     0

@@ -12,7 +12,7 @@ fn flowed(size: u32, elapsed: u32) -> u64
     requires { ⌜ size ≤ 32768 ⌝ }
     ensures { λ r. ⌜ r ≡ size * elapsed ⌝ }
 {
-    (size as u64) * (elapsed as u64)
+    capacity::product(elapsed as u64, size as u16)
 }
 
 fn less(charge: u64, flow: u64) -> u64

@@ -73,9 +73,10 @@ fn covers_it(p: Pack) -> bool
     if p.host.CapacityMode {
         let used = capacity::product(drawn, p.settings.DesignVoltage);
         let held = capacity::product(p.tank.charge, p.settings.DesignVoltage);
-        return 10000 * (10000 * rate + used) <= held;
+        let asked = capacity::product(rate, 10000) + used;
+        return capacity::product(asked, 10000) <= held;
     }
-    10000 * (rate + drawn) <= p.tank.charge
+    capacity::product(rate + drawn, 10000) <= p.tank.charge
 }
 
 // 07 AtRateOK.

@@ -32,8 +32,8 @@ returns-2 c = long _ (c .before .before .if1 .left) (c .if2 .taken)
 
 returns-3 : tie.Need-returns-3
 returns-3 c =
-    let k = c .before .before .before .before in
-    ap₂ _&&_ (c .before .before .totals-sound .ensures) (c .total-sound .ensures) ∙ rest _ (k .before .before .if1 .left) (k .if2 .left)
+    let k = c .before .before .before in
+    ap₂ _&&_ (c .before .totals-sound .ensures) (c .total-sound .ensures) ∙ rest _ (k .before .before .if1 .left) (k .if2 .left)
 
 pub sound-spec : {M : Type 1} → statement M
-sound-spec = tie.close (tie.spec returns returns-2 (λ c κs. search needs) (λ c. search needs) (λ c κs. search needs) returns-3)
+sound-spec = tie.close (tie.spec returns returns-2 (λ c κs. search needs) (λ c κs. search needs) returns-3)

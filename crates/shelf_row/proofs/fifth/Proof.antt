@@ -20,4 +20,4 @@ returns-2 c =
     (simp (le-ltb _ _ h), omega arith)
 
 pub fifth-spec : {M : Type 1} → statement M
-fifth-spec = tie.close (tie.spec (λ c κs. search needs) (λ c. search needs) (λ c κs. search needs) returns returns-2)
+fifth-spec = tie.close (tie.spec (λ c κs. search needs) (λ c κs. search needs) returns returns-2)

@@ -1,11 +1,13 @@
-use native.Mathlib.Nat.{lt-of-le-of-lt, mul-le-mul-right}
+-- `tank::flowed` meets its contract.
+-- Assumes nothing.
+use mathlib.Core.Path.{_∙_}
+use native.Mathlib.Nat.{mul-comm}
 use borrow.Author.Needs.{needs}
-use native.Mathlib.Omega.{arith}
 use Rattle.tank.proofs.flowed.Statement.{statement}
 use Rattle.tank.proofs.flowed.Tie as tie
 
-mul-result : tie.Need-mul-result
-mul-result c = record { fits = lt-of-le-of-lt (mul-le-mul-right (c .args .elapsed) (c .pre)) (omega (arith, c .fits .elapsed .fits)) }
+returns : tie.Need-returns
+returns c = c .product .ensures ∙ mul-comm (c .before .args .elapsed) (c .before .args .size)
 
 pub flowed-spec : {M : Type 1} → statement M
-flowed-spec = tie.close (tie.spec mul-result (search needs))
+flowed-spec = tie.close (tie.spec (search needs) (search needs) returns)
