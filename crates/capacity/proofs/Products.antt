@@ -21,13 +21,13 @@ part-sum a factor carry p e =
     ∙ parts-sum (a / 65536) (a % 65536) factor carry
     ∙ ap (λ n. (a / 65536 * factor + n / 65536) * 65536 + n % 65536) (sym e)
 
--- three parts, each with what the part below carries
-pub three-parts : (amount factor low middle high : ℕ) → amount < 2 ^ 48
+-- three parts, each with what the part below carries, joined by shifts
+pub three-parts : (amount factor low middle high : ℕ) → amount < 2 ^ 48 → high < 2 ^ 32
     → low ≡ amount % 65536 * factor + 0
     → middle ≡ amount / 2 ^ 16 % 65536 * factor + low / 2 ^ 16
     → high ≡ amount / 2 ^ 16 / 2 ^ 16 % 65536 * factor + middle / 2 ^ 16
-    → high * 2 ^ 32 + middle % 65536 * 2 ^ 16 + low % 65536 ≡ amount * factor
-three-parts amount factor low middle high h l m t =
+    → high * 2 ^ 32 % 2 ^ 64 + (middle % 65536 * 2 ^ 16 % 2 ^ 32 + low % 65536) ≡ amount * factor
+three-parts amount factor low middle high h k l m t =
     let above = amount / 65536 in
     let top = above / 65536 in
     let small : top / 65536 ≡ 0 = omega arith in
