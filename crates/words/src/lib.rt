@@ -20,7 +20,7 @@ pub fn high(w: u16) -> u8
 pub fn join(low: u8, high: u8) -> u16
     ensures { λ r. ⌜ r ≡ joined low high ⌝ }
 {
-    (rooms::wide(low) + 256 * rooms::wide(high)) as u16
+    (rooms::wide(low) + (rooms::wide(high) << 8)) as u16
 }
 
 // The word that a signed number is kept as: the one place where an i16 is met.
