@@ -45,11 +45,11 @@ module _ (table : List ℕ) where
     pub turn-fits : Fits t
     turn-fits = rw so (so-fits (rowsIn table) i within h small)
 
-    module _ {remaining full design : ℕ} (a : remaining ≡ numberAt 2 table (8 * i)) (b : full ≡ numberAt 2 table (8 * i + 2)) (d : design ≡ numberAt 2 table (8 * i + 4)) where
+    module _ {at : ℕ} (e : at ≡ 8 * i) {remaining full design : ℕ} (a : remaining ≡ numberAt 2 table at) (b : full ≡ numberAt 2 table (at + 2)) (d : design ≡ numberAt 2 table (at + 4)) where
       pub turn : figuresWith t remaining full design ≡ soFar (rowsIn table) (i + 1)
       turn =
-          let e : 8 * i + 4 ≡ 8 * i + 2 + 2 = omega arith in
-          rw (so, a, b, d, e) (rw (row-at i l) at (so-more (rowsIn table) i within h))
+          let f : 8 * i + 4 ≡ 8 * i + 2 + 2 = omega arith in
+          rw (so, a, b, d, e, f) (rw (row-at i l) at (so-more (rowsIn table) i within h))
 
       pub turn-small : remaining < 65536 → full < 65536 → Small (take (i + 1) (rowsIn table))
-      turn-small r f = so-small (rowsIn table) i within (rw (row-at i l, ← a) r) (rw (row-at i l, ← b) f) small
+      turn-small r f = so-small (rowsIn table) i within (rw (row-at i l, ← e, ← a) r) (rw (row-at i l, ← e, ← b) f) small

@@ -20,7 +20,7 @@ fn report_in(table: &[u8]) -> Figures
     let mut t = shelf_row::begin(rows);
     let mut i: usize = 0;
     while i < last {
-        let at = 8 * i;
+        let at = i << 3;
         t = shelf_row::step(
             t,
             word_at(table, at),

@@ -33,8 +33,8 @@ loop-again c =
     let a = w .before .before .word-at in
     let b = w .before .word-at2 in (
       omega arith,
-      c .step .ensures ∙ turn table (l .i) (omega arith) (omega arith) (l .inv .1) (l .inv .2) (a .ensures) (b .ensures) (w .word-at3 .ensures),
-      turn-small table (l .i) (omega arith) (omega arith) (l .inv .1) (l .inv .2) (a .ensures) (b .ensures) (w .word-at3 .ensures) (omega arith) (omega arith),
+      c .step .ensures ∙ turn table (l .i) (omega arith) (omega arith) (l .inv .1) (l .inv .2) (omega arith) (a .ensures) (b .ensures) (w .word-at3 .ensures),
+      turn-small table (l .i) (omega arith) (omega arith) (l .inv .1) (l .inv .2) (omega arith) (a .ensures) (b .ensures) (w .word-at3 .ensures) (omega arith) (omega arith),
     )
 
 returns : tie.Need-returns Inv-loop μ-loop
@@ -49,7 +49,6 @@ report-in-spec =
     (λ c κs. search needs)
     (λ c κs. search needs)
     loop-holds
-    (λ c. omega arith)
     (λ c κs. omega arith)
     (λ c. omega arith)
     (λ c κs. omega arith)
