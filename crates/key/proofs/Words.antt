@@ -2,7 +2,7 @@
 use mathlib.Core.Path.{_≡_, refl, sym, ap, _∙_}
 use mathlib.Core.Bool.{Bool, true, false, _&&_, and-eq-true-iff}
 use mathlib.Core.List.{List, [], _∷_, _++_, append-nil}
-use Prim.Native.Nat.{ℕ, _+_, _*_, _-_, _/_, _%_, _≤_, _<_}
+use Prim.Native.Nat.{ℕ, _+_, _*_, _-_, _/_, _%_, _^_, _≤_, _<_}
 use native.Mathlib.Nat.{add-zero}
 use native.Mathlib.Omega.{arith}
 use lib.Dec.{eqb, ltb, leb}
@@ -18,9 +18,11 @@ pub between : (lo hi c : ℕ) → leb lo c && leb c hi ≡ true → (lo ≤ c) �
 between lo hi c t = let b = and-eq-true-iff (leb lo c) (leb c hi) .0 t in (leb-true _ _ (b .0), leb-true _ _ (b .1))
 
 module _ (k : List ℕ) (at : ℕ) {a b c d : ℕ} (ea : a ≡ digitValue (getD k at 0)) (eb : b ≡ digitValue (getD k (at + 1) 0)) (ec : c ≡ digitValue (getD k (at + 2) 0)) (ed : d ≡ digitValue (getD k (at + 3) 0)) where
-  pub word-at : a * 4096 + b * 256 + c * 16 + d ≡ digitsWord (drop at k)
+  pub word-at : a ≤ 16 → b ≤ 16 → c ≤ 16 → a * 2 ^ 12 % 2 ^ 64 + b * 2 ^ 8 % 2 ^ 64 + c * 2 ^ 4 % 2 ^ 64 + d ≡ digitsWord (drop at k)
   unfolding digitsWord
-  word-at = rw (ea, eb, ec, ed, getD-drop at k 0 0, getD-drop at k 1 0, getD-drop at k 2 0, getD-drop at k 3 0, add-zero)
+  word-at ha hb hc =
+      let e : a * 2 ^ 12 % 2 ^ 64 + b * 2 ^ 8 % 2 ^ 64 + c * 2 ^ 4 % 2 ^ 64 ≡ a * 4096 + b * 256 + c * 16 = omega arith in
+      rw (e, ea, eb, ec, ed, getD-drop at k 0 0, getD-drop at k 1 0, getD-drop at k 2 0, getD-drop at k 3 0, add-zero)
 
   pub is-word-at : ltb a 16 && ltb b 16 && ltb c 16 && ltb d 16 ≡ isWord (drop at k)
   unfolding isWord

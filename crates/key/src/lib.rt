@@ -60,7 +60,7 @@ fn word(key: &[u8], at: usize) -> usize
     let b = digit_value(key[at + 1]);
     let c = digit_value(key[at + 2]);
     let d = digit_value(key[at + 3]);
-    a * 4096 + b * 256 + c * 16 + d
+    (a << 12) + (b << 8) + (c << 4) + d
 }
 
 // From a place on there are four digits, 2F, four digits, and no byte more.
