@@ -25,7 +25,7 @@ pub fn pack_up(answer: u8, above: usize) -> u32
     requires { ⌜ above < 16777216 ⌝ }
     ensures { λ r. ⌜ r ≡ packed answer above ⌝ }
 {
-    (answer as u32) + 256 * (above as u32)
+    (answer as u32) + ((above as u32) << 8)
 }
 
 pub fn checked(c: Checked) -> u32
@@ -52,7 +52,7 @@ pub fn opened(o: Opened) -> u32
     requires { ⌜ (o .rows < 256) × (o .place < 65536) ⌝ }
     ensures { λ r. ⌜ r ≡ openedNumber o ⌝ }
 {
-    pack_up(o.answer, o.rows + 256 * o.place)
+    pack_up(o.answer, o.rows + (o.place << 8))
 }
 
 pub fn key_read(read: Read, maker: usize, device: usize) -> u64
@@ -60,10 +60,10 @@ pub fn key_read(read: Read, maker: usize, device: usize) -> u64
     ensures { λ r. ⌜ r ≡ keyNumber read maker device ⌝ }
 {
     (read.answer as u64)
-        + 256 * (maker as u64)
-        + 65536 * (device as u64)
-        + 16777216 * (read.date as u64)
-        + 1099511627776 * (read.serial as u64)
+        + ((maker as u64) << 8)
+        + ((device as u64) << 16)
+        + ((read.date as u64) << 24)
+        + ((read.serial as u64) << 40)
 }
 
 pub fn located(l: Located) -> u64
@@ -72,10 +72,7 @@ pub fn located(l: Located) -> u64
 {
     let length = l.end - l.start;
     let last = one_if(l.factory);
-    (l.answer as u64)
-        + 256 * (length as u64)
-        + 65536 * (l.start as u64)
-        + 4294967296 * (last as u64)
+    (l.answer as u64) + ((length as u64) << 8) + ((l.start as u64) << 16) + ((last as u64) << 32)
 }
 
 fn row(mark: u8, place: usize, next: usize) -> u64
@@ -83,7 +80,7 @@ fn row(mark: u8, place: usize, next: usize) -> u64
     ensures { λ r. ⌜ r ≡ packed 0 (1 + 2 * mark + 256 * (next - place) + 16777216 * next) ⌝ }
 {
     let length = next - place;
-    256 + 512 * (mark as u64) + 65536 * (length as u64) + 4294967296 * (next as u64)
+    256 + ((mark as u64) << 9) + ((length as u64) << 16) + ((next as u64) << 32)
 }
 
 // A step from a place.
