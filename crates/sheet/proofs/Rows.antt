@@ -93,6 +93,6 @@ module _ (f : Form) (s : List ℕ) where
   pub refused : (Contents f s → ⊥) → false ≡ isSheetOf f s
   refused h = sym (eq-false-of-not-eq-true (λ e. h (contents e)))
 
-  pub by-rows : (n : ℕ) → n ≡ rowsListed s → 0 < length s → getD s 0 0 ≡ f .mark + n → n ≤ length (f .kinds) → 1 + 4 * n ≤ length s → isSheetOf f s ≡ rowsOk (f .kinds) n s 1 0 (1 + 4 * n)
+  pub by-rows : (n first : ℕ) → first ≡ 1 + 4 * n → n ≡ rowsListed s → 0 < length s → getD s 0 0 ≡ f .mark + n → n ≤ length (f .kinds) → first ≤ length s → isSheetOf f s ≡ rowsOk (f .kinds) n s 1 0 first
   unfolding isSheetOf
-  by-rows n e p m k l = simp (lt-ltb _ _ p, ← e, eq-eqb _ _ m, le-leb _ _ k, le-leb _ _ l)
+  by-rows n first o e p m k l = simp (lt-ltb _ _ p, ← e, eq-eqb _ _ m, le-leb _ _ k, ← o, le-leb _ _ l)

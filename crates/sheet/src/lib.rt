@@ -25,7 +25,7 @@ pub struct Located {
 fn offset(low: u8, high: u8) -> usize
     ensures { λ r. ⌜ (r ≡ low + 256 * high) × (r < 65536) ⌝ }
 {
-    rooms::wide(low) + 256 * rooms::wide(high)
+    rooms::wide(low) + (rooms::wide(high) << 8)
 }
 
 // Whether a tag may be listed with a body of some length.
@@ -61,7 +61,7 @@ pub fn is_sheet(bytes: &[u8]) -> bool
     if 4 < n {
         return false;
     }
-    let first = 1 + 4 * n;
+    let first = 1 + (n << 2);
     if size < first {
         return false;
     }

@@ -33,7 +33,7 @@ unfolding old
 returns-4 c =
     let k = c .before .before .before .before in
     let n = k .before .before .wide .ensures .0 in
-    sym (by-rows old _ _ (omega (arith, n, k .before .if2 .left)) (omega (arith, k .before .before .before .before .if1 .left)) (omega (arith, n)) (k .before .if2 .left) (k .if3 .left) ∙ row-bad _ _ _ _ _ _ _ _ (c .before .before .before .loop .inv .3) (c .before .before .loop-test .taken) (sym (c .before .row-ok .ensures) ∙ not-true _ (c .if4 .taken)))
+    sym (by-rows old _ _ _ (omega arith) (omega (arith, n, k .before .if2 .left)) (omega (arith, k .before .before .before .before .if1 .left)) (omega (arith, n)) (k .before .if2 .left) (k .if3 .left) ∙ row-bad _ _ _ _ _ _ _ _ (c .before .before .before .loop .inv .3) (c .before .before .loop-test .taken) (sym (c .before .row-ok .ensures) ∙ not-true _ (c .if4 .taken)))
 
 loop-again : tie.Need-loop-again Inv-loop μ-loop
 loop-again c = (
@@ -48,7 +48,7 @@ unfolding old
 returns-5 c =
     let k = c .before .before in
     let n = k .before .before .wide .ensures .0 in
-    sym (by-rows old _ _ (omega (arith, n, k .before .if2 .left)) (omega (arith, k .before .before .before .before .if1 .left)) (omega (arith, n)) (k .before .if2 .left) (k .if3 .left) ∙ rows-end _ _ _ _ _ _ _ _ (c .before .loop .inv .3) (c .loop-test .left))
+    sym (by-rows old _ _ _ (omega arith) (omega (arith, n, k .before .if2 .left)) (omega (arith, k .before .before .before .before .if1 .left)) (omega (arith, n)) (k .before .if2 .left) (k .if3 .left) ∙ rows-end _ _ _ _ _ _ _ _ (c .before .loop .inv .3) (c .loop-test .left))
 
 pub is-sheet-spec : {M : Type 1} → statement M
 is-sheet-spec =
@@ -60,7 +60,6 @@ is-sheet-spec =
     (λ c. omega arith)
     (λ c κs. search needs)
     returns-2
-    (λ c. omega arith)
     (λ c. omega arith)
     returns-3
     loop-holds
