@@ -2,7 +2,7 @@
 use mathlib.Core.Path.{_≡_, refl, sym, ap, _∙_}
 use mathlib.Core.Bool.{Bool, true, false, cond, not, _&&_, _||_, and-eq-true-iff, and-assoc, and-true}
 use mathlib.Core.List.{List, [], _∷_, _++_, append-assoc, append-nil}
-use Prim.Native.Nat.{ℕ, suc, _+_, _*_, _/_, _%_, _≤_, _<_}
+use Prim.Native.Nat.{ℕ, suc, _+_, _*_, _/_, _%_, _^_, _≤_, _<_}
 use native.Mathlib.Nat.{add-zero}
 use native.Mathlib.Omega.{arith}
 use lib.Dec.{leb}
@@ -194,7 +194,11 @@ module _ (es : List Entry) (room : List ℕ) where
 
   module _ (few : length es ≤ 4) (ok : writable es room ≡ true) (n : ℕ) (count : n ≡ length es) where
     abbrev start : Cursor
-    start = record { row = 1; end = 1 + 4 * n }
+    start = record { row = 1; end = 1 + n * 2 ^ 2 % 2 ^ 64 }
+
+    -- the shift loses no bit
+    exact : start .end ≡ 1 + 4 * n
+    exact = omega arith
 
     pub place-all : Place (set room 0 n) start es
     place-all =
@@ -205,7 +209,8 @@ module _ (es : List Entry) (room : List ℕ) where
     -- byte n, and then the rows and the bodies of all
     pub written : {m : List ℕ} {last : Cursor} (a : ℕ) → a ≡ 0 → Put (set room 0 n) start es m last → Owed (wrote a (last .end)) m
     unfolding sheetWrote sheetRoom sheetOf old
-    written {m} {last} a z all =
+    written {m} {last} a z given =
+        let all = rw exact at given in
         let C : List ℕ = contentsOf old es in
         let f : 1 + 4 * n ≡ 0 + length C = omega (arith, rows-length es (1 + 4 * length es)) in
         let l : last .end ≡ length (sheetOf old es) = ap (λ (a : Cursor). a .end) (all .0) ∙ omega (arith, sheet-length es) in

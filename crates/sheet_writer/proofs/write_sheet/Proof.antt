@@ -1,7 +1,7 @@
 use mathlib.Core.Path.{_≡_, ap, _∙_}
 use mathlib.Core.Bool.{Bool, true, cond, _&&_}
 use mathlib.Core.List.{List, _++_}
-use Prim.Native.Nat.{_+_, _*_, _≤_}
+use Prim.Native.Nat.{_+_, _*_, _%_, _^_, _≤_}
 use native.Mathlib.Omega.{arith}
 use borrow.Author.Needs.{needs}
 use lib.Dec.{leb}
@@ -52,7 +52,7 @@ slice-write-room : tie.Need-slice-write-room
 slice-write-room c = omega (arith, facts (from20 (c .before .before .before .before .before .before .before .before .before .before .before .before .before .before .before)) (c .before .before .before .before .before .before .before .before .before .before .before .before .before .before .before .args .room .now) (ok (c .before .before .before .before)) .1)
 
 -- there is place for them, and past each call for those that are left
-place20 : (c : tie.After-one-if4) → Place (set (c .before .before .before .before .before .before .before .before .before .before .before .before .before .before .before .args .room .now) 0 (c .before .before .before .one-if .result + c .before .before .one-if2 .result + c .before .one-if3 .result + c .one-if4 .result)) (record { row = 1; end = 1 + 4 * (c .before .before .before .one-if .result + c .before .before .one-if2 .result + c .before .one-if3 .result + c .one-if4 .result) }) (from20 (c .before .before .before .before .before .before .before .before .before .before .before .before .before .before .before))
+place20 : (c : tie.After-one-if4) → Place (set (c .before .before .before .before .before .before .before .before .before .before .before .before .before .before .before .args .room .now) 0 (c .before .before .before .one-if .result + c .before .before .one-if2 .result + c .before .one-if3 .result + c .one-if4 .result)) (record { row = 1; end = 1 + (c .before .before .before .one-if .result + c .before .before .one-if2 .result + c .before .one-if3 .result + c .one-if4 .result) * 2 ^ 2 % 2 ^ 64 }) (from20 (c .before .before .before .before .before .before .before .before .before .before .before .before .before .before .before))
 place20 c = place-all (from20 (c .before .before .before .before .before .before .before .before .before .before .before .before .before .before .before)) _ (few (c .before .before .before .before .before .before .before .before .before .before .before .before .before .before .before)) (ok (c .before .before .before .before)) _ (count c)
 
 place21 : (c : tie.After-put-entry) → Place (c .put-entry .last .0) (c .put-entry .result) (from21 (c .before .before .before .before .before .before .before .before .before .before .before .before .before .before .before .before .before))
@@ -112,7 +112,6 @@ write-sheet-spec =
     (λ c. search needs)
     (λ c. search needs)
     slice-write-room
-    (λ c. search needs)
     (λ c. search needs)
     put-entry-requires
     put-entry-requires-2
