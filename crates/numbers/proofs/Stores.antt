@@ -57,12 +57,12 @@ Writing width part₀ at values part i =
 pub writing-starts : (width : ℕ) (part : List ℕ) (at : ℕ) (values : List ℕ) → Writing width part at values part 0
 writing-starts width part at values = (omega arith, rw (mul-zero, add-zero), refl)
 
-pub writing-goes-on : (width : ℕ) (part₀ : List ℕ) (at : ℕ) (values part : List ℕ) (i : ℕ) {next : List ℕ} → i < length values
-    → next ≡ sets part (at + width * i) (numberBytes width (getD values i 0)) → Writing width part₀ at values part i → Writing width part₀ at values next (i + 1)
-writing-goes-on width part₀ at values part i h e w = (
+pub writing-goes-on : (width : ℕ) (part₀ : List ℕ) (at : ℕ) (values part : List ℕ) (i : ℕ) {place : ℕ} {next : List ℕ} → i < length values
+    → place ≡ at + width * i → next ≡ sets part place (numberBytes width (getD values i 0)) → Writing width part₀ at values part i → Writing width part₀ at values next (i + 1)
+writing-goes-on width part₀ at values part i h p e w = (
   omega arith,
-  rw e (put-turn width part values i (at + width * i) (at + width * (i + 1)) h (next-place width at i) ∙ w .1),
-  rw e (length-sets part (at + width * i) (numberBytes width (getD values i 0)) ∙ w .2),
+  rw (e, p) (put-turn width part values i (at + width * i) (at + width * (i + 1)) h (next-place width at i) ∙ w .1),
+  rw (e, p) (length-sets part (at + width * i) (numberBytes width (getD values i 0)) ∙ w .2),
 )
 
 pub writing-ends : (width : ℕ) (part₀ : List ℕ) (at : ℕ) (values part : List ℕ) (i : ℕ) → length values ≤ i
@@ -71,23 +71,24 @@ writing-ends width part₀ at values part i h w = rw (drop-of-length-le values h
 
 -- ---- a number is read
 
--- one byte of a number more is read, from the last to the first
-pub read-turn : (part : List ℕ) (at n i : ℕ) {found : ℕ} → 0 < i → i ≤ n → getD part (at + (i - 1)) 0 < 256
-    → found ≡ numberAt (n - i) part (at + i) → found < 256 ^ (n - i)
-    → (256 * found + getD part (at + (i - 1)) 0 ≡ numberAt (n - (i - 1)) part (at + (i - 1)))
-    × (256 * found + getD part (at + (i - 1)) 0 < 256 ^ (n - (i - 1)))
-read-turn part at n i {found} h less byte same small =
-    let m : n - (i - 1) ≡ suc (n - i) = omega arith in
-    let e : at + i ≡ suc (at + (i - 1)) = omega arith in
-    let same′ : found ≡ numberAt (n - i) part (suc (at + (i - 1))) = rw e at same in
-    (rw m (omega (arith, same′)), rw (m, pow-suc) (omega arith))
-
 -- a number of fewer than eight bytes leaves room for one byte more
-pub room-left : (n : ℕ) {v : ℕ} → n < 8 → v < 256 ^ n → v < 2 ^ 56
+room-left : (n : ℕ) {v : ℕ} → n < 8 → v < 256 ^ n → v < 2 ^ 56
 room-left n h small =
     let few : n ≤ 7 = omega arith in
     let most : 256 ^ n ≤ 256 ^ 7 = pow-le-pow-right (omega arith) few in
     omega arith
+
+-- one byte of a number more is read, from the last to the first
+pub read-turn : (part : List ℕ) (at n i : ℕ) {found : ℕ} → 0 < i → i ≤ n → n ≤ 8 → getD part (at + (i - 1)) 0 < 256
+    → found ≡ numberAt (n - i) part (at + i) → found < 256 ^ (n - i)
+    → (found * 2 ^ 8 % 2 ^ 64 + getD part (at + (i - 1)) 0 ≡ numberAt (n - (i - 1)) part (at + (i - 1)))
+    × (found * 2 ^ 8 % 2 ^ 64 + getD part (at + (i - 1)) 0 < 256 ^ (n - (i - 1)))
+read-turn part at n i {found} h less few byte same small =
+    let m : n - (i - 1) ≡ suc (n - i) = omega arith in
+    let e : at + i ≡ suc (at + (i - 1)) = omega arith in
+    let same′ : found ≡ numberAt (n - i) part (suc (at + (i - 1))) = rw e at same in
+    let exact : found * 2 ^ 8 % 2 ^ 64 ≡ 256 * found = omega (arith, room-left (n - i) (omega arith) small) in
+    (rw (exact, m) (omega (arith, same′)), rw (exact, m, pow-suc) (omega arith))
 
 -- ---- a list of numbers is read, all of one width
 
@@ -107,11 +108,11 @@ Reading width part at found₀ found i =
 pub reading-starts : (width : ℕ) (part : List ℕ) (at : ℕ) (found : List ℕ) → Reading width part at found found 0
 reading-starts width part at found = (omega arith, rw (mul-zero, add-zero, sub-zero), refl)
 
-pub reading-goes-on : (width : ℕ) (part : List ℕ) (at : ℕ) (found₀ found : List ℕ) (i : ℕ) {value : ℕ} → i < length found₀
-    → value ≡ numberAt width part (at + width * i) → Reading width part at found₀ found i → Reading width part at found₀ (set found i value) (i + 1)
-reading-goes-on width part at found₀ found i h e r = (
+pub reading-goes-on : (width : ℕ) (part : List ℕ) (at : ℕ) (found₀ found : List ℕ) (i : ℕ) {place value : ℕ} → i < length found₀
+    → place ≡ at + width * i → value ≡ numberAt width part place → Reading width part at found₀ found i → Reading width part at found₀ (set found i value) (i + 1)
+reading-goes-on width part at found₀ found i h p e r = (
   omega arith,
-  rw e (get-turn width (length found₀) found part i (at + width * i) (at + width * (i + 1)) h (next-place width at i) ∙ r .1),
+  rw (e, p) (get-turn width (length found₀) found part i (at + width * i) (at + width * (i + 1)) h (next-place width at i) ∙ r .1),
   simp length-set (r .2),
 )
 

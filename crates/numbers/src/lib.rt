@@ -28,7 +28,7 @@ pub fn put_words(part: &mut [u8], at: usize, words: &[u16])
 {
     let mut i = 0;
     while i < words.len() {
-        put_number(part, at + 2 * i, 2, words[i] as u64);
+        put_number(part, at + (i << 1), 2, words[i] as u64);
         i += 1;
     }
 }
@@ -41,7 +41,7 @@ pub fn put_longs(part: &mut [u8], at: usize, longs: &[u32])
 {
     let mut i = 0;
     while i < longs.len() {
-        put_number(part, at + 4 * i, 4, longs[i] as u64);
+        put_number(part, at + (i << 2), 4, longs[i] as u64);
         i += 1;
     }
 }
@@ -55,7 +55,7 @@ pub fn number_at(part: &[u8], at: usize, n: usize) -> u64
     let mut found: u64 = 0;
     while 0 < i {
         i -= 1;
-        found = 256 * found + (part[at + i] as u64);
+        found = (found << 8) + (part[at + i] as u64);
     }
     found
 }
@@ -88,7 +88,7 @@ pub fn words_at(part: &[u8], at: usize, words: &mut [u16])
 {
     let mut i = 0;
     while i < words.len() {
-        words[i] = word_at(part, at + 2 * i);
+        words[i] = word_at(part, at + (i << 1));
         i += 1;
     }
 }
@@ -100,7 +100,7 @@ pub fn longs_at(part: &[u8], at: usize, longs: &mut [u32])
 {
     let mut i = 0;
     while i < longs.len() {
-        longs[i] = long_at(part, at + 4 * i);
+        longs[i] = long_at(part, at + (i << 2));
         i += 1;
     }
 }

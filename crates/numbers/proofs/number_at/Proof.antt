@@ -5,7 +5,7 @@ use native.Mathlib.Nat.{sub-zero, add-zero}
 use native.Mathlib.Omega.{arith}
 use mathlib.Core.Path.{_≡_}
 use Rattle.numbers.specs.Numbers.{numberAt}
-use Rattle.numbers.proofs.Stores.{read-turn, room-left}
+use Rattle.numbers.proofs.Stores.{read-turn}
 use Rattle.numbers.proofs.number_at.Statement.{statement}
 use Rattle.numbers.proofs.number_at.Tie as tie
 
@@ -18,25 +18,18 @@ abbrev μ-loop : tie.MeasureT-loop
 loop-holds : tie.Need-loop-holds Inv-loop μ-loop
 loop-holds c = let none : c .args .n - c .args .n ≡ 0 = omega arith in (omega arith, rw none, rw none (omega arith))
 
-mul-found : tie.Need-mul-found Inv-loop μ-loop
-mul-found c =
-    let l = c .before .loop in omega (arith, room-left (c .before .before .args .n - l .i) (omega arith) (l .inv .2))
-
 cast-found : tie.Need-cast-found Inv-loop μ-loop
 cast-found c = omega (arith, c .shared-slice-known .given (c .before .before .before .args .at + (c .before .before .loop .i - 1)))
 
 add-found-2 : tie.Need-add-found-2 Inv-loop μ-loop
-add-found-2 c =
-    let l = c .before .before .loop in
-    let a = c .before .before .before .args in
-    omega (arith, c .shared-slice-known .given (a .at + (l .i - 1)), room-left (a .n - l .i) (omega arith) (l .inv .2))
+add-found-2 c = omega (arith, c .shared-slice-known .given (c .before .before .before .args .at + (c .before .before .loop .i - 1)))
 
 loop-again : tie.Need-loop-again Inv-loop μ-loop
 loop-again c =
     let l = c .before .before .loop in
     let a = c .before .before .before .args in
     let byte = c .shared-slice-known .given (a .at + (l .i - 1)) in
-    let t = read-turn (a .part .now) (a .at) (a .n) (l .i) (c .before .loop-test .taken) (l .inv .0) (omega (arith, byte)) (l .inv .1) (l .inv .2) in
+    let t = read-turn (a .part .now) (a .at) (a .n) (l .i) (c .before .loop-test .taken) (l .inv .0) (omega arith) (omega (arith, byte)) (l .inv .1) (l .inv .2) in
     (omega arith, t .0, t .1)
 
 returns : tie.Need-returns Inv-loop μ-loop
@@ -54,7 +47,6 @@ number-at-spec =
     μ-loop
     loop-holds
     (λ c. omega arith)
-    mul-found
     (λ c. omega arith)
     (λ c. omega arith)
     cast-found

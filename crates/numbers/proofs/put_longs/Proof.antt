@@ -23,7 +23,7 @@ loop-again : tie.Need-loop-again Inv-loop μ-loop
 loop-again c =
     let l = c .before .before .before .before .before .before .loop in
     let a = c .before .before .before .before .before .before .before .before .before .args in
-    writing-goes-on 4 (a .part .now) (a .at) (a .longs .now) (l .part) (l .i) (omega arith) (c .before .before .put-number .ensures) (l .inv)
+    writing-goes-on 4 (a .part .now) (a .at) (a .longs .now) (l .part) (l .i) (omega arith) (omega arith) (c .before .before .put-number .ensures) (l .inv)
 
 same-length : tie.Need-same-length Inv-loop μ-loop
 same-length c = c .before .loop .inv .2
@@ -41,7 +41,6 @@ put-longs-spec =
     Inv-loop
     μ-loop
     loop-holds
-    (λ c. omega arith)
     (λ c. omega arith)
     (λ c. omega arith)
     (λ c. omega arith)
