@@ -81,13 +81,13 @@ module _ (marks sizes bodies room : List ℕ) where
   given-length g = ap length (given-is g) ∙ rw (length-append, interleaved-length marks sizes (g .even)) (omega arith)
 
   pub served : leb (roomAsked marks sizes bodies) (length room) ≡ true → givenFit marks sizes bodies ≡ true
-      → {r₁ r₂ : List ℕ} → r₁ ≡ sets (set room 0 (length marks)) 1 (interleaved marks sizes) → r₂ ≡ sets r₁ (2 * length marks + 1) bodies
-      → (a : ℕ) → a ≡ 0 → (wrote a (2 * length marks + 1 + length bodies) ≡ captureWrote marks sizes bodies room) × (r₂ ≡ captureRoom marks sizes bodies room)
+      → {r₁ r₂ : List ℕ} → r₁ ≡ sets (set room 0 (length marks)) 1 (interleaved marks sizes) → {place : ℕ} → place ≡ 2 * length marks + 1 → r₂ ≡ sets r₁ place bodies
+      → (a : ℕ) → a ≡ 0 → (wrote a (place + length bodies) ≡ captureWrote marks sizes bodies room) × (r₂ ≡ captureRoom marks sizes bodies room)
   unfolding captureWrote captureRoom
-  served e f {r₁} {r₂} h₁ h₂ a z =
+  served e f {r₁} {r₂} h₁ {place} p h₂ a z =
       let g = given marks sizes bodies f in
-      let n = given-length g in
-      let at : 2 * length marks + 1 ≡ 0 + length (length marks ∷ interleaved marks sizes) = omega (arith, interleaved-length marks sizes (g .even)) in
-      let stored = h₂ ∙ then room 0 (2 * length marks + 1) (length marks ∷ interleaved marks sizes) bodies h₁ at ∙ ap (sets room 0) (sym (given-is g)) in
+      let n : place + length bodies ≡ length (captureGiven marks sizes bodies) = omega (arith, given-length g) in
+      let at : place ≡ 0 + length (length marks ∷ interleaved marks sizes) = omega (arith, interleaved-length marks sizes (g .even)) in
+      let stored = h₂ ∙ then room 0 place (length marks ∷ interleaved marks sizes) bodies h₁ at ∙ ap (sets room 0) (sym (given-is g)) in
       let fits : length (captureGiven marks sizes bodies) ≤ length room = omega (arith, leb-true (roomAsked marks sizes bodies) (length room) e, g .even) in
-      (simp (e, f, z) (ap (wrote 0) (sym n)), simp (e, f) (stored ∙ front (captureGiven marks sizes bodies) room fits))
+      (simp (e, f, z) (ap (wrote 0) n), simp (e, f) (stored ∙ front (captureGiven marks sizes bodies) room fits))

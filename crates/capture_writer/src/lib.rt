@@ -90,7 +90,7 @@ pub fn write_capture(marks: &[u8], lengths: &[u8], bodies: &[u8], room: &mut [u8
         return Wrote { answer, length: 0 };
     }
     let n = marks.len();
-    let place = 2 * n + 1;
+    let place = (n << 1) + 1;
     room[0] = n as u8;
     put_rows(marks, lengths, room);
     put_bytes(room, place, bodies);

@@ -47,7 +47,7 @@ same-length c = let a = c .before .before .before .before .before .before .befor
 
 returns-2 : tie.Need-returns-2
 returns-2 c = let a = c .before .before .before .before .before .before .before .before .before .before .before .before .before .before .args in
-    served (a .marks .now) (a .lengths .now) (a .bodies .now) (a .room .now) (ok (c .before .before .before .before .before .before .before .before) .0) (ok (c .before .before .before .before .before .before .before .before) .1) (c .before .before .before .before .before .before .put-rows .ensures) (c .before .before .put-bytes .ensures) _ (c .before .before .before .before .before .before .before .before .if1 .left)
+    served (a .marks .now) (a .lengths .now) (a .bodies .now) (a .room .now) (ok (c .before .before .before .before .before .before .before .before) .0) (ok (c .before .before .before .before .before .before .before .before) .1) (c .before .before .before .before .before .before .put-rows .ensures) (omega (arith, rows (c .before .before .before .before .before .before .before .before) .byte)) (c .before .before .put-bytes .ensures) _ (c .before .before .before .before .before .before .before .before .if1 .left)
 
 pub write-capture-spec : {M : Type 1} → statement M
 write-capture-spec =
@@ -55,7 +55,6 @@ write-capture-spec =
     (tie.spec
     (λ c κs. search needs)
     returns
-    (λ c. search needs)
     (λ c. search needs)
     cast-room
     slice-write-room
