@@ -2,11 +2,11 @@
 use mathlib.Core.Path.{_≡_, refl, sym, ap, _∙_}
 use mathlib.Core.Bool.{true, false, _&&_, and-false, and-eq-true-iff}
 use mathlib.Core.List.{List}
-use Prim.Native.Nat.{ℕ, zero, suc, _+_, _-_, _*_, _≤_, _<_}
+use Prim.Native.Nat.{ℕ, zero, suc, _+_, _-_, _*_, _%_, _^_, _≤_, _<_}
 use native.Mathlib.Numerals.{add-one}
 use native.Mathlib.Omega.{arith}
 use lib.Dec.{leb, eqb}
-use lib.ListN.{length}
+use lib.ListN.{length, getD}
 use borrow.Author.Tests.{le-leb, lt-leb, eq-eqb, leb-true, eqb-true}
 use Rattle.capture.specs.Capture.{fits, captureMost, countIn, markIn, lengthIn, placeIn, rowsFit, isCapture}
 
@@ -18,6 +18,13 @@ module _ (s : List ℕ) where
   pub place-more : (row : ℕ) → placeIn s (row + 1) ≡ placeIn s row + lengthIn s row
   unfolding placeIn
   place-more row = rw add-one
+
+  -- a row's mark and length stand where a shift finds them
+  abbrev pub InRow : ℕ → Type 0
+  InRow row = (getD s (row * 2 ^ 1 % 2 ^ 64 + 1) 0 ≡ markIn s row) × (getD s (row * 2 ^ 1 % 2 ^ 64 + 2) 0 ≡ lengthIn s row)
+
+  pub in-row : (row : ℕ) → row ≤ 255 → InRow row
+  in-row row h = let e : row * 2 ^ 1 % 2 ^ 64 ≡ 2 * row = omega arith in rw e (refl, refl)
 
   pub rows-start : rowsFit s 0 ≡ true
   unfolding rowsFit

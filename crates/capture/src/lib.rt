@@ -34,16 +34,16 @@ pub fn is_capture(s: &[u8]) -> bool
         return false;
     }
     let n = wide(s[0]);
-    let mut place = 2 * n + 1;
+    let mut place = (n << 1) + 1;
     if size < place {
         return false;
     }
     let mut row = 0;
     while row < n {
-        if 1 < s[2 * row + 1] {
+        if 1 < s[(row << 1) + 1] {
             return false;
         }
-        let length = wide(s[2 * row + 2]);
+        let length = wide(s[(row << 1) + 2]);
         if 37 < length {
             return false;
         }
@@ -62,7 +62,7 @@ pub fn open(s: &[u8]) -> Opened
         Opened {
             answer: 0,
             rows,
-            place: 2 * rows + 1,
+            place: (rows << 1) + 1,
         }
     } else {
         Opened {
@@ -85,7 +85,7 @@ pub fn step_at(s: &[u8], row: usize, place: usize) -> Step
         return Step::NotCapture;
     }
     let n = wide(s[0]);
-    if size < 2 * n + 1 {
+    if size < (n << 1) + 1 {
         return Step::NotCapture;
     }
     if LONGEST < size {
@@ -94,15 +94,15 @@ pub fn step_at(s: &[u8], row: usize, place: usize) -> Step
     if n <= row {
         return Step::End;
     }
-    let mark = s[2 * row + 1];
+    let mark = s[(row << 1) + 1];
     if 1 < mark {
         return Step::NotCapture;
     }
-    let bytes = wide(s[2 * row + 2]);
+    let bytes = wide(s[(row << 1) + 2]);
     if 37 < bytes {
         return Step::NotCapture;
     }
-    if place < 2 * n + 1 {
+    if place < (n << 1) + 1 {
         return Step::End;
     }
     if size < place {

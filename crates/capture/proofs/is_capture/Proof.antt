@@ -6,7 +6,7 @@ use native.Mathlib.Omega.{arith}
 use lib.Dec.{eqb}
 use lib.ListN.{length}
 use Rattle.capture.specs.Capture.{countIn, placeIn, rowsFit}
-use Rattle.capture.proofs.Check.{place-start, place-more, rows-start, rows-more, rows-mark, rows-length, short, unfit, told}
+use Rattle.capture.proofs.Check.{place-start, in-row, place-more, rows-start, rows-more, rows-mark, rows-length, short, unfit, told}
 use Rattle.capture.proofs.is_capture.Statement.{statement}
 use Rattle.capture.proofs.is_capture.Tie as tie
 
@@ -23,16 +23,28 @@ returns-2 : tie.Need-returns-2 Inv-loop μ-loop
 returns-2 c = short _ (omega arith)
 
 loop-holds : tie.Need-loop-holds Inv-loop μ-loop
-loop-holds c = (omega arith, ap (λ (n : ℕ). 2 * n + 1) (c .before .wide .ensures .0) ∙ place-start _, omega arith, rows-start _, c .before .wide .ensures .0)
+loop-holds c = (omega arith, omega (arith, place-start (c .before .before .before .before .before .args .s .now)), omega arith, rows-start _, c .before .wide .ensures .0)
 
 returns-3 : tie.Need-returns-3 Inv-loop μ-loop
-returns-3 c = unfit _ _ (omega arith) (rows-mark (c .before .before .before .before .before .before .before .before .before .args .s .now) (c .before .before .before .loop .row) (c .if3 .taken))
+returns-3 c =
+    let s = c .before .before .before .before .before .before .before .before .before .args .s .now in
+    let row = c .before .before .before .loop .row in
+    let h = in-row s row (omega arith) in
+    unfit s row (omega arith) (rows-mark s row (omega arith))
 
 returns-4 : tie.Need-returns-4 Inv-loop μ-loop
-returns-4 c = unfit (c .before .before .before .before .before .before .before .before .before .before .before .before .args .s .now) (c .before .before .before .before .before .before .loop .row) (omega arith) (rows-length (c .before .before .before .before .before .before .before .before .before .before .before .before .args .s .now) (c .before .before .before .before .before .before .loop .row) (omega arith))
+returns-4 c =
+    let s = c .before .before .before .before .before .before .before .before .before .before .before .before .args .s .now in
+    let row = c .before .before .before .before .before .before .loop .row in
+    let h = in-row s row (omega arith) in
+    unfit s row (omega arith) (rows-length s row (omega arith))
 
 loop-again : tie.Need-loop-again Inv-loop μ-loop
-loop-again c = (omega arith, omega (arith, place-more (c .before .before .before .before .before .before .before .before .before .before .before .before .args .s .now) (c .before .before .before .before .before .before .loop .row)), omega arith, rows-more _ _ (c .before .before .before .before .before .before .loop .inv .3) (omega arith) (omega arith), c .before .before .before .before .before .before .loop .inv .4)
+loop-again c =
+    let s = c .before .before .before .before .before .before .before .before .before .before .before .before .args .s .now in
+    let l = c .before .before .before .before .before .before .loop in
+    let h = in-row s (l .row) (omega arith) in
+    (omega arith, omega (arith, place-more s (l .row)), omega arith, rows-more s (l .row) (l .inv .3) (omega arith) (omega arith), l .inv .4)
 
 returns-5 : tie.Need-returns-5 Inv-loop μ-loop
 returns-5 c = let s = c .before .before .before .before .before .before .before .args .s .now in
@@ -49,14 +61,11 @@ is-capture-spec =
     (λ c. omega arith)
     (λ c κs. omega arith)
     (λ c. omega arith)
-    (λ c. omega arith)
     returns-2
     loop-holds
     (λ c. omega arith)
     (λ c. omega arith)
-    (λ c. omega arith)
     returns-3
-    (λ c. omega arith)
     (λ c. omega arith)
     (λ c. omega arith)
     (λ c κs. omega arith)
