@@ -294,10 +294,10 @@ struct entry {
     char name[32];
     void (*call[3])(void); /* p, c, s */
     size_t size;
-    bool reading;
+    bool reading, power;
     uint8_t command;
 };
-static struct entry entries[96];
+static struct entry entries[112];
 static size_t count;
 
 static struct entry *add(const char *name, void (*p)(void), void (*c)(void), void (*s)(void))
@@ -317,12 +317,13 @@ static void add_sized(const char *name, size_t length, void (*p)(void), void (*c
     snprintf(e->name, sizeof e->name, "%s-%zu", name, length);
 }
 
-static void add_command(const char *name, bool read, uint8_t command)
+static struct entry *add_command(const char *name, bool read, uint8_t command)
 {
     struct entry *e = add(name, transact_p, transact_c, transact_s);
     e->reading = read;
     e->command = command;
     snprintf(e->name, sizeof e->name, "%s-%02X", name, command);
+    return e;
 }
 
 static void make_entries(void)
@@ -333,6 +334,9 @@ static void make_entries(void)
         add_sized("pec", lengths[i], pec_p, pec_c);
     for (uint8_t command = 0; command <= 0x1C; command++)
         add_command("read", true, command);
+    static const uint8_t in_power_mode[] = {0x07, 0x0F, 0x10, 0x11, 0x12, 0x13, 0x18};
+    for (size_t i = 0; i < sizeof in_power_mode; i++)
+        add_command("power-read", true, in_power_mode[i])->power = true;
     for (uint8_t command = 0x20; command <= 0x23; command++)
         add_command("block-read", true, command);
     for (uint8_t command = 0; command <= 4; command++)
@@ -378,16 +382,23 @@ static void make_capture(uint8_t *at, size_t rows)
 static uint8_t start_area[SNATCHBLOCK_AREA];
 static struct sb2_state start_state;
 
+/* A word written to a pack in an area and to one in a state. */
+static void write_both(uint8_t *pack, struct sb2_state *own, uint8_t command, uint16_t word)
+{
+    const uint8_t write[] = {0x16, command, (uint8_t)word, (uint8_t)(word >> 8)};
+    size_t length;
+    (void)sb2_area_transact(pack, SNATCHBLOCK_AREA, false, of(write, 4), of(sheet, sheet_length), of(sheet, sheet_length), room, 34, &length);
+    (void)sb2_transact(own, false, of(write, 4), of(sheet, sheet_length), of(sheet, sheet_length), room, 34, &length);
+}
+
 static void make_start(void)
 {
     for (size_t i = 0; i < sizeof long_text; i += sizeof text)
         memcpy(long_text + i, text, sizeof text);
     (void)sb2_area_set_up(start_area, sizeof start_area, &figures);
     (void)sb2_set_up(&start_state, &figures);
-    uint8_t at_rate[] = {0x16, 0x04, 0x0C, 0xFE};
+    write_both(start_area, &start_state, 0x04, 0xFE0C); /* AtRate -500 */
     size_t length;
-    (void)sb2_area_transact(start_area, sizeof start_area, false, of(at_rate, 4), of(sheet, sheet_length), of(sheet, sheet_length), room, 34, &length);
-    (void)sb2_transact(&start_state, false, of(at_rate, 4), of(sheet, sheet_length), of(sheet, sheet_length), room, 34, &length);
     for (uint32_t i = 1; i <= 60; i++) {
         struct sb2_sample sample = {14800, -1500, 2981, 1000 * i};
         (void)sb2_area_take_sample(start_area, sizeof start_area, &sample, room, 16, &length);
@@ -400,6 +411,8 @@ static void prepare(const struct entry *e)
 {
     memcpy(area, start_area, sizeof area);
     state = start_state;
+    if (e->power)
+        write_both(area, &state, 0x03, 0x8000);
     counter = 60000;
     size = e->size;
     if (e->call[0] == walk_p)

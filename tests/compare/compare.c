@@ -300,7 +300,7 @@ enum other {
     SECONDS_DONE, SECONDS_KEPT = SECONDS_DONE + 9, WRAP_IN_SECOND = SECONDS_KEPT + 61, MEAN_OF,
     MINUTE_COUNT = MEAN_OF + 8, MINUTE_MS = MINUTE_COUNT + 6, MINUTE_BEGUN = MINUTE_MS + 5,
     MINUTE_UNDER = MINUTE_BEGUN + 5, MINUTE_OVER = MINUTE_UNDER + 5 * 60, AREA_OF_OLD = MINUTE_OVER + 5 * 60,
-    OTHERS = AREA_OF_OLD + 3
+    PARTS_OF = AREA_OF_OLD + 3, CARRIES = PARTS_OF + 5 * 5, OTHERS = CARRIES + 4
 };
 static uint64_t other[OTHERS];
 
@@ -792,6 +792,41 @@ static void play_at_rate_ok(void)
     play_message(message, 3, true, SNATCHBLOCK_AREA);
 }
 
+/* A 16-bit part of a number: 0, 1, 32,768, 65,535 or any. */
+enum { PART_BORDERS = 5 };
+static uint64_t border_part(unsigned border)
+{
+    static const uint16_t parts[PART_BORDERS - 1] = {0, 1, 0x8000, 0xFFFF};
+    return border < PART_BORDERS - 1 ? parts[border] : below(0x10000);
+}
+
+/* Reads the words that a product goes into, with a charge whose 16-bit parts are at their borders; then a sample of
+ * such an elapsed time. */
+static void play_parts(void)
+{
+    static const uint8_t words[] = {0x07, 0x0D, 0x0E, 0x0F, 0x10, 0x18};
+    unsigned low = below(PART_BORDERS), middle = below(PART_BORDERS);
+    uint64_t charge = border_part(low) | border_part(middle) << 16 | (uint64_t)below(54) << 32; /* under 65,535 mAh */
+    uint64_t voltage = border_part(1 + below(PART_BORDERS - 1)) | 1; /* never 0 */
+    put(SNATCHBLOCK_SETTINGS + 2, 2, voltage);
+    put(SNATCHBLOCK_HOST + 6, 2, (uint16_t)(0x8000 + below(0x8000)));
+    put(SNATCHBLOCK_HOST + 10, 1, below(2));
+    put(SNATCHBLOCK_TANK, 8, charge);
+    put(SNATCHBLOCK_TANK + 8, 2, 65535);
+    if (!sb2_area_sound(bytes_of(state_area, SNATCHBLOCK_AREA)))
+        return;
+    for (size_t i = 0; i < sizeof words; i++) {
+        const uint8_t ask[3] = {0x16, words[i], 0x17};
+        play_message_in(SB2_REPLY_ROOM, ask, 3, true, SNATCHBLOCK_AREA);
+    }
+    uint64_t lowest = (charge & 0xFFFF) * voltage, next = (charge >> 16 & 0xFFFF) * voltage + (lowest >> 16);
+    other[PARTS_OF + PART_BORDERS * low + middle]++;
+    other[CARRIES + 2 * (lowest > 0xFFFF) + (next > 0xFFFF)]++;
+    uint32_t elapsed = (uint32_t)(border_part(below(PART_BORDERS)) | border_part(below(PART_BORDERS)) << 16);
+    struct sb2_sample sample = {some_word(), some_current(), some_word(), number_at(SNATCHBLOCK_LATEST + 6, 4) + elapsed};
+    (void)play_given_sample(sample, SNATCHBLOCK_AREA, 16);
+}
+
 /* Reads the times at the slowest rates, AtRate, current and mean 1 or -1, the mean with a second kept and with none. */
 static void play_times(void)
 {
@@ -848,6 +883,8 @@ static void play_areas(void)
         play_set_up(true);
         play_time_alarm();
         play_at_rate_ok();
+        play_set_up(true);
+        play_parts();
     }
     play_set_up(true);
     play_times();
@@ -1643,6 +1680,8 @@ static bool tally(void)
         {"totals so in each place under the count", MINUTE_UNDER, MINUTE_UNDER + 5 * 60 - 1},
         {"and in each place beyond it", MINUTE_OVER, MINUTE_OVER + 5 * 60 - 1},
         {"areas of version 1: sound, sample, transact", AREA_OF_OLD, AREA_OF_OLD + 2},
+        {"charges of 16-bit parts 0, 1, 32,768, 65,535, any", PARTS_OF, PARTS_OF + 24},
+        {"carries of no part, the middle, the lowest, both", CARRIES, CARRIES + 3},
     };
     for (size_t i = 0; i < sizeof lines / sizeof *lines; i++)
         all = count_other(lines[i].name, lines[i].first, lines[i].last) && all;
