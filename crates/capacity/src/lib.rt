@@ -60,7 +60,7 @@ pub fn power(amount: u64, voltage: u16) -> u64
     requires { ⌜ amount ≤ 65535 ⌝ }
     ensures { λ r. ⌜ r ≡ powerOf amount voltage ⌝ }
 {
-    product(amount, voltage) / 10000
+    (product16(amount as u16, voltage) / 10000) as u64
 }
 
 // Of mA·ms in 10 mWh.

@@ -68,15 +68,15 @@ fn covers_it(p: Pack) -> bool
     requires { ⌜ tankSound (p .tank) ≡ true ⌝ }
     ensures { λ r. ⌜ r ≡ covers p ⌝ }
 {
-    let rate = words::size(p.host.AtRate) as u64;
-    let drawn = present_discharge(p) as u64;
+    let rate = words::size(p.host.AtRate);
+    let drawn = present_discharge(p);
     if p.host.CapacityMode {
-        let used = capacity::product(drawn, p.settings.DesignVoltage);
+        let used = capacity::product16(drawn as u16, p.settings.DesignVoltage);
         let held = capacity::product(p.tank.charge, p.settings.DesignVoltage);
-        let asked = capacity::product(rate, 10000) + used;
-        return capacity::product(asked, 10000) <= held;
+        let asked = capacity::product16(rate as u16, 10000) + used;
+        return capacity::product(asked as u64, 10000) <= held;
     }
-    capacity::product(rate + drawn, 10000) <= p.tank.charge
+    capacity::product((rate + drawn) as u64, 10000) <= p.tank.charge
 }
 
 // 07 AtRateOK.
