@@ -3,11 +3,12 @@
 use Prim.Native.Nat.{ℕ}
 use mathlib.Core.Bool.{Bool, false, cond, not, _&&_, _||_}
 use lib.Dec.{ltb, eqb}
+use Rattle.pack.specs.Discharge.{dischargeEnds}
 use Rattle.pack.specs.declared.Pack.{Pack}
 use Rattle.registers.specs.Registers.{remainingCapacity}
 use Rattle.times.specs.Times.{averageTimeToEmpty}
 use Rattle.capacity.specs.Capacity.{milliampMs}
-use Rattle.words.specs.Words.{above, below}
+use Rattle.words.specs.Words.{above}
 
 -- 15 OVER_CHARGED: 0 (house) (RULES 6.19)
 abbrev pub overCharged : Pack → Bool
@@ -27,7 +28,7 @@ terminateCharge p = above (p .latest .current) && (chargeFull p || overTemp p)
 
 -- 11 TERMINATE_DISCHARGE: current below 0, voltage below its limit (RULES 6.20)
 abbrev pub terminateDischarge : Pack → Bool
-terminateDischarge p = below (p .latest .current) && ltb (p .latest .voltage) (p .settings .DischargeLimit)
+terminateDischarge p = dischargeEnds (p .latest .voltage) (p .latest .current) (p .settings .DischargeLimit)
 
 -- 9 REMAINING_CAPACITY: 01 isn't 0 and 0F is below it (RULES 6.21)
 abbrev pub remainingCapacityLow : Pack → Bool

@@ -31,7 +31,7 @@ pub fn terminate_charge(p: Pack) -> bool
 pub fn terminate_discharge(p: Pack) -> bool
     ensures { λ r. ⌜ r ≡ terminateDischarge p ⌝ }
 {
-    words::falls(p.latest.current) & (p.latest.voltage < p.settings.DischargeLimit)
+    pack::discharge_ends(p.latest.voltage, p.latest.current, p.settings.DischargeLimit)
 }
 
 // Bit 9.

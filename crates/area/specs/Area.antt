@@ -1,4 +1,4 @@
--- The state in a lent area of 312 bytes, for which document 01 has no rule: the error code, then each part, the one that may grow last; each number low byte first.
+-- The state in a lent area of 329 bytes, for which document 01 has no rule: the error code, then each part, the one that may grow last; each number low byte first.
 --
 --   at   bytes
 --     0      1  error code
@@ -11,11 +11,14 @@
 --    40      8  charge
 --    48  2 × 2  full capacity, CycleCount
 --    52      1  flag: FullyDischarged
---    53  3 × 4  hold, alarm timer, charger timer
---    65 60 × 4  the totals of complete seconds, newest first
---   305      1  how many are kept
---   306      2  the begun second's milliseconds
---   308      4  its total
+--    53      8  drawn toward the next cycle
+--    61      8  drawn in the run
+--    69      1  flag: a run is open
+--    70  3 × 4  hold, alarm timer, charger timer
+--    82 60 × 4  the totals of complete seconds, newest first
+--   322      1  how many are kept
+--   323      2  the begun second's milliseconds
+--   325      4  its total
 --
 -- Assumes nothing.
 use Prim.Native.Nat.{ℕ, _+_}

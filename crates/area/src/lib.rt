@@ -31,7 +31,7 @@ pub const LATEST: usize = HOST + 11;
 
 const TANK: usize = LATEST + 10;
 
-pub const TIMERS: usize = TANK + 13;
+pub const TIMERS: usize = TANK + 30;
 
 pub const RECENT: usize = TIMERS + 12;
 

@@ -13,9 +13,10 @@ use Rattle.numbers.specs.Numbers.{numbersAt}
 use Rattle.area_parts.specs.Parts.{settingsBytes, hostBytes, latestBytes, tankBytes, timersBytes, recentBytes, recentIn}
 use Rattle.numbers.proofs.Numbers.{bytes-between, number-fits}
 use Rattle.area.proofs.Whole.{held, read-back}
-use Rattle.area_laws.specs.Laws.{AreasTell, HeldInArea, StatesTell, SoundGoesIn, ErrorFirst, minuteAnew, AreaAnew, SoundAnew}
-use Rattle.pack.proofs.Soundness.{count-of-sound, parts, pack-of-sound, pack-sound, code-of-sound, sound-state}
+use Rattle.area_laws.specs.Laws.{AreasTell, HeldInArea, StatesTell, SoundGoesIn, ErrorFirst, minuteAnew, AreaAnew, SoundAnew, countsAnew, AreaWithoutCounts, SoundWithoutCounts}
+use Rattle.pack.proofs.Soundness.{count-of-sound, parts, pack-of-sound, pack-sound, code-of-sound, sound-state, settings-facts, toward-sound, run-sound}
 use Rattle.recent.proofs.Soundness.{zero-sound}
+use Rattle.pack.specs.Sound.{tankSound}
 use Rattle.pack.specs.declared.Pack.{Pack}
 
 pub areas-tell : AreasTell
@@ -63,7 +64,7 @@ held-in-area a b =
                         begun = recent 2 241;
                         total = recent 4 243;
                       };
-                  tank = record { charge = tank 8 0; full = tank 2 8; CycleCount = tank 2 10 };
+                  tank = record { charge = tank 8 0; full = tank 2 8; CycleCount = tank 2 10; toward = tank 8 13; drawn = tank 8 21 };
                   timers = record { hold = timers 0; alarm = timers 4; charger = timers 8 };
                 };
           };
@@ -92,5 +93,26 @@ pub sound-anew : SoundAnew
 sound-anew s h =
     let f = parts (s .pack) (pack-of-sound s h) in
     sound-state (minuteAnew s)
-    (pack-sound (minuteAnew s .pack) (record { settings = f .settings; tank = f .tank; recent = zero-sound; timers = f .timers }))
+    (pack-sound (minuteAnew s .pack) (record { settings = f .settings; tank = f .tank; toward = f .toward; run = f .run; recent = zero-sound; timers = f .timers }))
+    (code-of-sound s h)
+
+pub area-without-counts : AreaWithoutCounts
+unfolding areaOf
+area-without-counts s = refl
+
+pub sound-without-counts : SoundWithoutCounts
+unfolding tankSound
+sound-without-counts s h =
+    let f = parts (s .pack) (pack-of-sound s h) in
+    let design = settings-facts (s .pack .settings) (f .settings) .design in
+    sound-state (countsAnew s)
+    (pack-sound (countsAnew s .pack)
+    (record {
+      settings = f .settings;
+      tank = f .tank;
+      toward = toward-sound (s .pack .settings .DesignCapacity) 0 (omega (arith, design));
+      run = run-sound _ (record { most = omega arith; none = λ e. refl });
+      recent = f .recent;
+      timers = f .timers;
+    }))
     (code-of-sound s h)

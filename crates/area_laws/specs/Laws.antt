@@ -1,15 +1,15 @@
 -- What is proved of areas, over the definitions of the crate `area`. (That a store is loaded again, and a load stored again,
 -- is in the contracts of `store` and `load`.) Assumes nothing: these are definitions.
 use mathlib.Core.Path.{_≡_}
-use mathlib.Core.Bool.{true}
+use mathlib.Core.Bool.{true, false}
 use mathlib.Core.List.{List, _++_}
-use Prim.Native.Nat.{ℕ, _≤_}
+use Prim.Native.Nat.{ℕ, _-_, _≤_}
 use lib.ListN.{length, take, drop, replicate}
 use Rattle.rooms.specs.Rooms.{Bytes}
 use Rattle.numbers.specs.Numbers.{bytesTaken}
 use Rattle.area_parts.specs.Parts.{recentWidths}
 use Rattle.recent.specs.Recent.{zeroRecent}
-use Rattle.area.specs.Area.{recentAt, areaLength, areaOf, stateIn, isArea, storedOf}
+use Rattle.area.specs.Area.{timersAt, recentAt, areaLength, areaOf, stateIn, isArea, storedOf}
 use Rattle.pack.specs.Fits.{Fits}
 use Rattle.pack.specs.Sound.{soundOf}
 use Rattle.pack.specs.declared.State.{State}
@@ -58,6 +58,38 @@ AreaAnew = (s : State) → areaOf (minuteAnew s) ≡ take recentAt (areaOf s) ++
 -- and it is sound where the state was (RULES 12.5)
 abbrev pub SoundAnew : Type 0
 SoundAnew = (s : State) → soundOf s ≡ true → soundOf (minuteAnew s) ≡ true
+
+-- a state whose counts begin anew: nothing drawn toward the next cycle, no run open
+abbrev pub countsAnew : State → State
+countsAnew s =
+    record {
+      error = s .error;
+      pack =
+          record {
+            settings = s .pack .settings;
+            host = s .pack .host;
+            latest = s .pack .latest;
+            recent = s .pack .recent;
+            tank =
+                record {
+                  charge = s .pack .tank .charge;
+                  full = s .pack .tank .full;
+                  CycleCount = s .pack .tank .CycleCount;
+                  FullyDischarged = s .pack .tank .FullyDischarged;
+                  toward = 0;
+                  run = record { opened = false; drawn = 0 };
+                };
+            timers = s .pack .timers;
+          };
+    }
+
+-- its area has 17 zeros before the timers (RULES 12.6)
+abbrev pub AreaWithoutCounts : Type 0
+AreaWithoutCounts = (s : State) → areaOf (countsAnew s) ≡ take (timersAt - 17) (areaOf s) ++ replicate 17 0 ++ drop timersAt (areaOf s)
+
+-- and it is sound where the state was (RULES 12.6)
+abbrev pub SoundWithoutCounts : Type 0
+SoundWithoutCounts = (s : State) → soundOf s ≡ true → soundOf (countsAnew s) ≡ true
 
 -- the error code is the area's first byte: where a call leaves the pack as it was, every other byte of the area stays
 abbrev pub ErrorFirst : Type 0

@@ -78,13 +78,16 @@ latest-back l f =
 
 tank-numbers : (t : Tank) → TankFit t → numbersAt tankWidths (tankBytes t) 0 ≡ tankNumbers t
 tank-numbers t f =
-    numbers-back tankWidths (tankNumbers t) (tankBytes t) 0 (f .charge, (f .full, (f .CycleCount, (flag-within (t .FullyDischarged), tt)))) refl
+    numbers-back tankWidths (tankNumbers t) (tankBytes t) 0 
+    (f .charge, (f .full, (f .CycleCount, (flag-within (t .FullyDischarged), (f .toward, (f .drawn, (flag-within (t .run .opened), tt)))))))
+    refl
 
 pub tank-back : (t : Tank) → TankFit t → tankIn (tankBytes t) ≡ t
-tank-back t f = ap tankFrom (tank-numbers t f) ∙ rw (flag-back (t .FullyDischarged))
+tank-back t f = ap tankFrom (tank-numbers t f) ∙ rw (flag-back (t .FullyDischarged), flag-back (t .run .opened))
 
 pub tank-is : (t : Tank) → TankFit t → isTank (tankBytes t) ≡ true
-tank-is t f = ap (λ (ns : List ℕ). flags (drop 3 ns)) (tank-numbers t f) ∙ rw (is-flag (t .FullyDischarged))
+tank-is t f =
+    ap (λ (ns : List ℕ). flags (getD ns 3 0 ∷ getD ns 6 0 ∷ [])) (tank-numbers t f) ∙ rw (is-flag (t .FullyDischarged), is-flag (t .run .opened))
 
 pub timers-back : (t : Timers) → TimersFit t → timersIn (timersBytes t) ≡ t
 timers-back t f = ap timersFrom (numbers-back timersWidths (timersNumbers t) (timersBytes t) 0 (f .hold, (f .alarm, (f .charger, tt))) refl)
@@ -167,7 +170,9 @@ module _ (part : List ℕ) (b : Bytes part) where
   latest-again n = all-again part b latestWidths n
 
   pub tank-again : length part ≡ bytesTaken tankWidths → isTank part ≡ true → tankBytes (tankIn part) ≡ part
-  tank-again n is = rw (flag-again (numberAt 1 part 12) (and-eq-true-iff _ _ .0 is .0)) (all-again part b tankWidths n)
+  tank-again n is =
+      let f = and-eq-true-iff _ _ .0 is in
+      rw (flag-again (numberAt 1 part 12) (f .0), flag-again (numberAt 1 part 29) (and-eq-true-iff _ _ .0 (f .1) .0)) (all-again part b tankWidths n)
 
   pub timers-again : length part ≡ bytesTaken timersWidths → timersBytes (timersIn part) ≡ part
   timers-again n = all-again part b timersWidths n

@@ -106,16 +106,33 @@ latestBytes l = numbersBytes latestWidths (latestNumbers l)
 abbrev pub latestIn : List ℕ → Latest
 latestIn part = latestFrom (numbersAt latestWidths part 0)
 
--- ---- the tank: the charge in 8 bytes, full capacity, CycleCount, and bit 4 of BatteryStatus as a flag
+-- ---- the tank: the charge in 8 bytes, full capacity, CycleCount, bit 4 of BatteryStatus as a flag; what is drawn toward the
+-- next cycle and in the run in 8 bytes each, and that a run is open as a flag
 
 abbrev pub tankWidths : List ℕ
-tankWidths = 8 ∷ 2 ∷ 2 ∷ 1 ∷ []
+tankWidths = 8 ∷ 2 ∷ 2 ∷ 1 ∷ 8 ∷ 8 ∷ 1 ∷ []
 
 abbrev pub tankNumbers : Tank → List ℕ
-tankNumbers t = t .charge ∷ t .full ∷ t .CycleCount ∷ flagOf (t .FullyDischarged) ∷ []
+tankNumbers t =
+    t .charge
+    ∷ t .full
+    ∷ t .CycleCount
+    ∷ flagOf (t .FullyDischarged)
+    ∷ t .toward
+    ∷ t .run .drawn
+    ∷ flagOf (t .run .opened)
+    ∷ []
 
 abbrev pub tankFrom : List ℕ → Tank
-tankFrom ns = record { charge = getD ns 0 0; full = getD ns 1 0; CycleCount = getD ns 2 0; FullyDischarged = flagged (getD ns 3 0) }
+tankFrom ns =
+    record {
+      charge = getD ns 0 0;
+      full = getD ns 1 0;
+      CycleCount = getD ns 2 0;
+      FullyDischarged = flagged (getD ns 3 0);
+      toward = getD ns 4 0;
+      run = record { opened = flagged (getD ns 6 0); drawn = getD ns 5 0 };
+    }
 
 abbrev pub tankBytes : Tank → List ℕ
 tankBytes t = numbersBytes tankWidths (tankNumbers t)
@@ -123,9 +140,9 @@ tankBytes t = numbersBytes tankWidths (tankNumbers t)
 abbrev pub tankIn : List ℕ → Tank
 tankIn part = tankFrom (numbersAt tankWidths part 0)
 
--- its flag is a flag
+-- its flags are flags
 abbrev pub isTank : List ℕ → Bool
-isTank part = flags (drop 3 (numbersAt tankWidths part 0))
+isTank part = flags (getD (numbersAt tankWidths part 0) 3 0 ∷ getD (numbersAt tankWidths part 0) 6 0 ∷ [])
 
 -- ---- the timers, 4 bytes each
 

@@ -15,6 +15,7 @@ use numbers::word_at;
 use numbers::words_at;
 use pack::Host;
 use pack::Latest;
+use pack::Run;
 use pack::Settings;
 use pack::Tank;
 use pack::Timers;
@@ -82,6 +83,9 @@ pub fn put_tank(part: &mut [u8], t: Tank)
     put_number(part, 0, 8, t.charge);
     put_words(part, 8, &[t.full, t.CycleCount]);
     part[12] = flag(t.FullyDischarged);
+    put_number(part, 13, 8, t.toward);
+    put_number(part, 21, 8, t.run.drawn);
+    part[29] = flag(t.run.opened);
 }
 
 pub fn put_timers(part: &mut [u8], t: Timers)
@@ -166,11 +170,17 @@ pub fn tank_in(part: &[u8]) -> Tank
     requires { ⌜ length (now part) ≡ bytesTaken tankWidths ⌝ }
     ensures { λ r. ⌜ r ≡ tankIn (now (part .entry)) ⌝ }
 {
+    let run = Run {
+        opened: byte_at(part, 29) == 1,
+        drawn: number_at(part, 21, 8),
+    };
     Tank {
         charge: number_at(part, 0, 8),
         full: word_at(part, 8),
         CycleCount: word_at(part, 10),
         FullyDischarged: byte_at(part, 12) == 1,
+        toward: number_at(part, 13, 8),
+        run: run,
     }
 }
 
@@ -178,7 +188,7 @@ pub fn is_tank(part: &[u8]) -> bool
     requires { ⌜ length (now part) ≡ bytesTaken tankWidths ⌝ }
     ensures { λ r. ⌜ r ≡ isTank (now (part .entry)) ⌝ }
 {
-    byte_at(part, 12) <= 1
+    (byte_at(part, 12) <= 1) & (byte_at(part, 29) <= 1)
 }
 
 pub fn timers_in(part: &[u8]) -> Timers

@@ -84,7 +84,7 @@ written-sound s command word code l h =
     let p = parts (s .pack) (pack-of-sound s h) in
     sound-state _
     (pack-sound _
-    (record { settings = p .settings; tank = p .tank; recent = p .recent; timers = written-timers (s .pack .host) (s .pack .timers) command word (p .timers) }))
+    (record { settings = p .settings; tank = p .tank; toward = p .toward; run = p .run; recent = p .recent; timers = written-timers (s .pack .host) (s .pack .timers) command word (p .timers) }))
     l
 
 pub sound-stays : SoundStays

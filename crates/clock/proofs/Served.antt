@@ -25,8 +25,7 @@ pub sendable : (p q : Pack) (x : Sample) → tankSound (p .tank) ≡ true → re
 unfolding movedOf
 sendable p q x h r e =
     let elapsed = elapsedOf (x .counter) (p .latest .counter) in
-    let current = latestOf x .current in
-    (ap (λ (m : Pack). tankSound (m .tank)) e ∙ tank.after-sound (p .tank) current elapsed h, ap (λ (m : Pack). recentSound (m .recent)) e ∙ recent.after-sound (p .recent) current elapsed r)
+    (ap (λ (m : Pack). tankSound (m .tank)) e ∙ tank.after-sound (p .settings) (p .tank) (latestOf x) elapsed h, ap (λ (m : Pack). recentSound (m .recent)) e ∙ recent.after-sound (p .recent) (latestOf x .current) elapsed r)
 
 pub assembled : (s : State) (x : Sample) (q : Pack) (n : ℕ) (t : Timers)
     → q ≡ movedOf (s .pack) x → n ≡ length (broadcastOf q) → t ≡ restartedOf (q .timers) (alarmGoes q) (chargerGoes q)

@@ -1,4 +1,4 @@
-// A sample: charge, recent minute, bit 4, hold and timers move on; then come the broadcasts.
+// A sample: the tank, the recent minute, hold and timers move on; then come the broadcasts.
 ghost use mathlib.Core.Path.{_≡_};
 ghost use mathlib.Core.Bool.{true};
 ghost use Prim.Native.Nat.{_≤_};
@@ -6,8 +6,8 @@ ghost use lib.ListN.{length};
 ghost use Rattle.clock.specs.Sample.{elapsedOf, movedOf};
 ghost use Rattle.broadcasts.specs.Broadcasts.{broadcastOf};
 ghost use Rattle.clock.specs.Broadcast.{servedSample, sampleOf, broadcastRoom};
-ghost use Rattle.pack.specs.Sound.{tankSound, timersSound, soundOf};
-ghost use Rattle.recent.specs.Recent.{recentSound};
+ghost use Rattle.pack.specs.Facts.{SoundParts};
+ghost use Rattle.pack.specs.Sound.{soundOf};
 ghost use Rattle.rooms.specs.Rooms.{placed};
 use pack::Latest;
 use pack::Pack;
@@ -30,14 +30,13 @@ pub fn elapsed(new: u32, old: u32) -> u32
 
 // The pack at the moment of sending.
 fn moved(p: Pack, s: Sample) -> Pack
-    requires { ⌜ (tankSound (p .tank) ≡ true) × (recentSound (p .recent) ≡ true) × (timersSound (p .host) (p .timers) ≡ true) ⌝ }
+    requires { ⌜ SoundParts p ⌝ }
     ensures { λ r. ⌜ r ≡ movedOf p s ⌝ }
 {
     let time = elapsed(s.counter, p.latest.counter);
     let latest = pack::latest_of(s);
-    let current = latest.current;
-    let recent = seconds::sampled(p.recent, current, time);
-    let tank = tank::sampled(p.tank, current, time);
+    let recent = seconds::sampled(p.recent, latest.current, time);
+    let tank = tank::sampled(p.settings, p.tank, latest, time);
     let timers = timers::sampled(p.host, p.timers, time);
     let host = timers::host_sampled(p.host, timers.hold);
     let settings = p.settings;

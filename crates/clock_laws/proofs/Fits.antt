@@ -1,10 +1,8 @@
 -- A sample leaves fields that hold what their types let them hold.
 -- Assumes nothing.
-use Prim.Native.Nat.{ℕ, _+_, _-_, _*_, _^_, _<_, min}
+use Prim.Native.Nat.{ℕ, _+_, _<_, min}
 use mathlib.Core.Bool.{Bool, true, false, cond}
-use mathlib.Core.Path.{_≡_}
 use native.Mathlib.Omega.{arith}
-use Rattle.capacity.specs.Capacity.{milliampMs}
 use Rattle.broadcasts.specs.Broadcasts.{alarmGoes, chargerGoes}
 use Rattle.clock.specs.Broadcast.{sampledOf}
 use Rattle.clock.specs.Sample.{elapsedOf, movedOf}
@@ -12,30 +10,37 @@ use Rattle.clock_laws.proofs.Sound.{outcome}
 use Rattle.clock_laws.proofs.Timers.{no-more}
 use Rattle.clock_laws.specs.Promises.{SampledFits}
 use Rattle.pack.proofs.Kept.{kept-fits}
-use Rattle.pack.proofs.Soundness.{parts, pack-of-sound}
+use Rattle.learning.specs.Learning.{learned}
+use Rattle.pack.proofs.Soundness.{tank-facts, toward-fact, run-facts, parts, pack-of-sound}
+use Rattle.pack.specs.Facts.{SoundParts}
 use Rattle.pack.specs.Fits.{Fits, PackFits, SampleFits, TankFit}
 use Rattle.pack.specs.Kept.{latestOf}
+use Rattle.pack.specs.declared.Latest.{Latest}
 use Rattle.pack.specs.declared.Pack.{Pack}
 use Rattle.pack.specs.declared.Sample.{Sample}
-use Rattle.pack.specs.declared.Tank.{Tank}
 use Rattle.seconds.proofs.After.{after-fits}
-use Rattle.recent.specs.Recent.{recentSound}
-use Rattle.tank.specs.Charge.{tankAfter}
-use Rattle.words.specs.Words.{below, sizeOf}
+use Rattle.tank.proofs.Charge as tank
+use Rattle.tank.specs.Tank.{seenOf, closed, tankAfter}
 
-held : (b : Bool) (charge top flow : ℕ) → charge < 2 ^ 64 → top < 2 ^ 64 → cond b (charge - flow) (min top (charge + flow)) < 2 ^ 64
-held true charge top flow h l = omega arith
-held false charge top flow h l = omega arith
+full-small : (b : Bool) (new full : ℕ) → new < 65536 → full < 65536 → cond b new full < 65536
+full-small true new full f g = f
+full-small false new full f g = g
 
-tank-fits : (t : Tank) (current elapsed : ℕ) → TankFit t → TankFit (tankAfter t current elapsed)
-tank-fits t current elapsed f =
+tank-fits : (p : Pack) (x : Latest) (elapsed : ℕ) → SoundParts p → PackFits p → TankFit (tankAfter (p .settings) (p .tank) x elapsed)
+unfolding tankAfter
+tank-fits p x elapsed h f =
+    let s = p .settings in
+    let t = p .tank in
+    let full = full-small (closed s t x elapsed) (learned (t .run) (seenOf s t x elapsed)) (t .full) (omega arith) (f .tank .full) in
     record {
-      charge = held (below current) (t .charge) (milliampMs (t .full)) (sizeOf current * elapsed) (f .charge) (omega (arith, f .full));
-      full = f .full;
-      CycleCount = f .CycleCount;
+      charge = omega (arith, full, tank-facts (tankAfter s t x elapsed) (tank.after-sound s t x elapsed (h .tank)) .charge);
+      full = full;
+      CycleCount = omega arith;
+      toward = omega (arith, f .settings .DesignCapacity, toward-fact (s .DesignCapacity) (tankAfter s t x elapsed .toward) (tank.toward-after s t x elapsed (h .toward)));
+      drawn = omega (arith, run-facts (tankAfter s t x elapsed .run) (tank.run-after s t x elapsed) .most);
     }
 
-sampled-pack : (p : Pack) (x : Sample) → recentSound (p .recent) ≡ true → PackFits p → SampleFits x → PackFits (sampledOf p x)
+sampled-pack : (p : Pack) (x : Sample) → SoundParts p → PackFits p → SampleFits x → PackFits (sampledOf p x)
 unfolding sampledOf movedOf
 sampled-pack p x h f g =
     let e = elapsedOf (x .counter) (p .latest .counter) in
@@ -46,8 +51,8 @@ sampled-pack p x h f g =
       settings = f .settings;
       host = record { ManufacturerAccess = f .host .ManufacturerAccess; RemainingCapacityAlarm = f .host .RemainingCapacityAlarm; RemainingTimeAlarm = f .host .RemainingTimeAlarm; AtRate = f .host .AtRate };
       latest = kept-fits x g;
-      recent = after-fits (p .recent) (latestOf x .current) e h (f .recent);
-      tank = tank-fits (p .tank) (latestOf x .current) e (f .tank);
+      recent = after-fits (p .recent) (latestOf x .current) e (h .recent) (f .recent);
+      tank = tank-fits p (latestOf x) e h f;
       timers =
           record {
             hold = omega (arith, f .timers .hold);
@@ -58,4 +63,4 @@ sampled-pack p x h f g =
 
 pub sampled-fits : SampledFits
 sampled-fits s x n f g =
-    outcome (λ r. Fits (r .state)) s x n (λ answer. f) (λ h. record { error = f .error; pack = sampled-pack (s .pack) x (parts (s .pack) (pack-of-sound s h) .recent) (f .pack) g })
+    outcome (λ r. Fits (r .state)) s x n (λ answer. f) (λ h. record { error = f .error; pack = sampled-pack (s .pack) x (parts (s .pack) (pack-of-sound s h)) (f .pack) g })

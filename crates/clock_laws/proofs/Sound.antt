@@ -54,7 +54,9 @@ sampled-sound s x h =
     (pack-sound _
     (record {
       settings = f .settings;
-      tank = tank.after-sound (s .pack .tank) (latestOf x .current) e (f .tank);
+      tank = tank.after-sound (s .pack .settings) (s .pack .tank) (latestOf x) e (f .tank);
+      toward = tank.toward-after (s .pack .settings) (s .pack .tank) (latestOf x) e (f .toward);
+      run = tank.run-after (s .pack .settings) (s .pack .tank) (latestOf x) e;
       recent = recent.after-sound (s .pack .recent) (latestOf x .current) e (f .recent);
       timers =
           timers-sound _ _

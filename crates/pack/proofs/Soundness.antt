@@ -1,15 +1,17 @@
 -- What each part's test says, fact by fact, and back; a sound state's parts; the error code may change below 8.
 -- Assumes nothing.
 use Prim.Native.Nat.{ℕ, _<_, _≤_}
-use mathlib.Core.Bool.{Bool, true, false, not, _||_, and-eq-true-iff, false≢true}
+use mathlib.Core.Bool.{Bool, true, false, not, _||_, and-eq-true-iff, true≢false, false≢true}
 use mathlib.Core.Path.{_≡_, refl, sym}
 use native.Mathlib.Omega.{arith}
 use lib.Dec.{eqb}
-use borrow.Author.Tests.{eq-eqb, ne-eqb, eqb-true, eqb-false, le-leb, leb-true, not-true}
-use Rattle.pack.specs.Facts.{SettingsFacts, TankFacts, TimersFacts, SoundParts}
-use Rattle.pack.specs.Sound.{exactly, settingsSound, tankSound, timersSound, errorSound, packSound, soundOf}
+use borrow.Author.Tests.{eq-eqb, ne-eqb, eqb-true, eqb-false, le-leb, leb-true, lt-ltb, ltb-true, not-true}
+use Rattle.capacity.specs.Capacity.{milliampMs}
+use Rattle.pack.specs.Facts.{SettingsFacts, TankFacts, RunFacts, TimersFacts, SoundParts}
+use Rattle.pack.specs.Sound.{exactly, settingsSound, tankSound, towardSound, runSound, timersSound, errorSound, packSound, soundOf}
 use Rattle.pack.specs.declared.Host.{Host}
 use Rattle.pack.specs.declared.Pack.{Pack}
+use Rattle.pack.specs.declared.Run.{Run}
 use Rattle.pack.specs.declared.Settings.{Settings}
 use Rattle.pack.specs.declared.State.{State}
 use Rattle.pack.specs.declared.Tank.{Tank}
@@ -38,6 +40,31 @@ tank-facts t h =
 pub tank-sound : (t : Tank) → TankFacts t → tankSound t ≡ true
 unfolding tankSound
 tank-sound t f = simp (ne-eqb (t .full) 0 (omega arith), le-leb _ _ (f .charge))
+
+pub toward-fact : (design toward : ℕ) → towardSound design toward ≡ true → toward < milliampMs design
+unfolding towardSound
+toward-fact design toward h = ltb-true _ _ h
+
+pub toward-sound : (design toward : ℕ) → toward < milliampMs design → towardSound design toward ≡ true
+unfolding towardSound
+toward-sound design toward h = lt-ltb _ _ h
+
+or-there : (a b : Bool) → a || b ≡ true → a ≡ false → b ≡ true
+or-there true b h e = absurd (true≢false e)
+or-there false b h e = h
+
+or-back : (a b : Bool) → (a ≡ false → b ≡ true) → a || b ≡ true
+or-back true b f = refl
+or-back false b f = f refl
+
+pub run-facts : (u : Run) → runSound u ≡ true → RunFacts u
+unfolding runSound
+run-facts u h =
+    let b = and-eq-true-iff _ _ .0 h in record { most = leb-true _ _ (b .0); none = λ e. eqb-true _ _ (or-there _ _ (b .1) e) }
+
+pub run-sound : (u : Run) → RunFacts u → runSound u ≡ true
+unfolding runSound
+run-sound u f = simp (le-leb _ _ (f .most), or-back (u .opened) (eqb (u .drawn) 0) (λ e. eq-eqb _ _ (f .none e)))
 
 follows : (a b : Bool) → not a || b ≡ true → a ≡ true → b ≡ true
 follows true b h e = h
@@ -93,14 +120,16 @@ timers-sound h t f =
 pub parts : (p : Pack) → packSound p ≡ true → SoundParts p
 unfolding packSound
 parts p h =
-    let b3 = and-eq-true-iff _ _ .0 h in
+    let b5 = and-eq-true-iff _ _ .0 h in
+    let b4 = and-eq-true-iff _ _ .0 (b5 .0) in
+    let b3 = and-eq-true-iff _ _ .0 (b4 .0) in
     let b2 = and-eq-true-iff _ _ .0 (b3 .0) in
     let b1 = and-eq-true-iff _ _ .0 (b2 .0) in
-    record { settings = b1 .0; tank = b1 .1; recent = b2 .1; timers = b3 .1 }
+    record { settings = b1 .0; tank = b1 .1; toward = b2 .1; run = b3 .1; recent = b4 .1; timers = b5 .1 }
 
 pub pack-sound : (p : Pack) → SoundParts p → packSound p ≡ true
 unfolding packSound
-pack-sound p f = simp (f .settings, f .tank, f .recent, f .timers)
+pack-sound p f = simp (f .settings, f .tank, f .toward, f .run, f .recent, f .timers)
 
 -- a sound state's pack is sound, its error code at most 7, its count of seconds at most 60; and back
 pub pack-of-sound : (s : State) → soundOf s ≡ true → packSound (s .pack) ≡ true

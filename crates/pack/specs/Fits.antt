@@ -41,6 +41,8 @@ pub record TankFit (t : Tank) : Type 0 where
   pub charge : t .charge < 2 ^ 64
   pub full : t .full < 65536
   pub CycleCount : t .CycleCount < 65536
+  pub toward : t .toward < 2 ^ 64
+  pub drawn : t .run .drawn < 2 ^ 64
 
 pub record TimersFit (t : Timers) : Type 0 where
   pub hold : t .hold < 2 ^ 32

@@ -2,3 +2,4 @@ pub mod Sound
 pub mod Facts
 pub mod Fits
 pub mod Kept
+pub mod Discharge

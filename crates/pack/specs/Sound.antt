@@ -2,10 +2,11 @@
 -- Assumes nothing.
 use Prim.Native.Nat.{ℕ}
 use mathlib.Core.Bool.{Bool, cond, not, _&&_, _||_}
-use lib.Dec.{leb, eqb}
+use lib.Dec.{ltb, leb, eqb}
 use Rattle.capacity.specs.Capacity.{milliampMs}
 use Rattle.pack.specs.declared.Host.{Host}
 use Rattle.pack.specs.declared.Pack.{Pack}
+use Rattle.pack.specs.declared.Run.{Run}
 use Rattle.pack.specs.declared.Settings.{Settings}
 use Rattle.pack.specs.declared.State.{State}
 use Rattle.pack.specs.declared.Tank.{Tank}
@@ -24,6 +25,14 @@ settingsSound s = not (eqb (s .DesignCapacity) 0) && not (eqb (s .DesignVoltage)
 unfoldable pub tankSound : Tank → Bool
 tankSound t = not (eqb (t .full) 0) && leb (t .charge) (milliampMs (t .full))
 
+-- toward the next cycle less than one design capacity (RULES 3.11)
+unfoldable pub towardSound : ℕ → ℕ → Bool
+towardSound design toward = ltb toward (milliampMs design)
+
+-- in a run at most 65,535 mAh, and 0 with none open (RULES 3.12)
+unfoldable pub runSound : Run → Bool
+runSound u = leb (u .drawn) (milliampMs 65535) && (u .opened || eqb (u .drawn) 0)
+
 -- the hold is at most 60,000, the alarm timer at most 10,000, the charger timer at most 29,999 and 0 while CHARGER_MODE is
 -- set, and the alarm hold is 0 exactly when ALARM_MODE is clear (RULES 3.4 to 3.6)
 unfoldable pub timersSound : Host → Timers → Bool
@@ -37,10 +46,12 @@ timersSound h t =
 unfoldable pub errorSound : ℕ → Bool
 errorSound code = leb code 7
 
--- all but the error code is sound (RULES 3.1 to 3.6)
+-- all but the error code is sound (RULES 3.1 to 3.6, 3.11, 3.12)
 unfoldable pub packSound : Pack → Bool
 packSound p =
-    settingsSound (p .settings) && tankSound (p .tank) && recentSound (p .recent) && timersSound (p .host) (p .timers)
+    settingsSound (p .settings) && tankSound (p .tank)
+    && towardSound (p .settings .DesignCapacity) (p .tank .toward) && runSound (p .tank .run)
+    && recentSound (p .recent) && timersSound (p .host) (p .timers)
 
 -- a state is sound when each of its parts is (RULES 3)
 unfoldable pub soundOf : State → Bool

@@ -1,7 +1,8 @@
 // The pack's state: what it remembers, when that is sound, and what a sample is kept as.
 ghost use mathlib.Core.Path.{_≡_};
-ghost use Rattle.pack.specs.Sound.{exactly, settingsSound, tankSound, timersSound, errorSound, soundOf};
+ghost use Rattle.pack.specs.Sound.{exactly, settingsSound, tankSound, towardSound, runSound, timersSound, errorSound, soundOf};
 ghost use Rattle.pack.specs.Kept.{latestOf};
+ghost use Rattle.pack.specs.Discharge.{dischargeEnds};
 use recent::Recent;
 
 // What set-up fixes.
@@ -36,12 +37,23 @@ pub struct Latest {
     pub counter: u32,
 }
 
-// Charge in mA·ms; full capacity in mAh; FullyDischarged is bit 4 of BatteryStatus.
+// What is drawn in a run is held here: 65,535 mAh in mA·ms.
+pub const RUN_MOST: u64 = 235926000000;
+
+// A discharge from full: whether one is open, and the charge drawn in it.
+pub struct Run {
+    pub opened: bool,
+    pub drawn: u64,
+}
+
+// Charge, and what is drawn toward the next cycle, in mA·ms; full capacity in mAh; FullyDischarged is bit 4 of BatteryStatus.
 pub struct Tank {
     pub charge: u64,
     pub full: u16,
     pub CycleCount: u16,
     pub FullyDischarged: bool,
+    pub toward: u64,
+    pub run: Run,
 }
 
 // In milliseconds.
@@ -93,6 +105,18 @@ fn tank_sound(t: Tank) -> bool
     (t.full != 0) & (t.charge <= capacity::milliamp_ms(t.full))
 }
 
+fn toward_sound(design: u16, toward: u64) -> bool
+    ensures { λ r. ⌜ r ≡ towardSound design toward ⌝ }
+{
+    toward < capacity::milliamp_ms(design)
+}
+
+fn run_sound(u: Run) -> bool
+    ensures { λ r. ⌜ r ≡ runSound u ⌝ }
+{
+    (u.drawn <= RUN_MOST) & (u.opened | (u.drawn == 0))
+}
+
 fn timers_sound(h: Host, t: Timers) -> bool
     ensures { λ r. ⌜ r ≡ timersSound h t ⌝ }
 {
@@ -115,6 +139,8 @@ pub fn sound(s: State) -> bool
 {
     settings_sound(s.pack.settings)
         & tank_sound(s.pack.tank)
+        & toward_sound(s.pack.settings.DesignCapacity, s.pack.tank.toward)
+        & run_sound(s.pack.tank.run)
         & recent::sound(s.pack.recent)
         & timers_sound(s.pack.host, s.pack.timers)
         & error_sound(s.error)
@@ -131,4 +157,11 @@ pub fn latest_of(s: Sample) -> Latest
         temperature: s.temperature,
         counter: s.counter,
     }
+}
+
+// TERMINATE_DISCHARGE, by a sample's figures and the limit. Only our own crates call it.
+pub fn discharge_ends(voltage: u16, current: u16, limit: u16) -> bool
+    ensures { λ r. ⌜ r ≡ dischargeEnds voltage current limit ⌝ }
+{
+    words::falls(current) & (voltage < limit)
 }

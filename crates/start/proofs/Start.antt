@@ -6,7 +6,7 @@ use mathlib.Core.Path.{_≡_, refl}
 use native.Mathlib.Omega.{arith}
 use native.Mathlib.Nat.{mul-le-mul-right}
 use lib.Dec.{eqb}
-use Rattle.pack.proofs.Soundness.{settings-sound, tank-sound, pack-sound, sound-state}
+use Rattle.pack.proofs.Soundness.{settings-sound, tank-sound, toward-sound, run-sound, pack-sound, sound-state}
 use Rattle.pack.proofs.Kept.{kept-fits}
 use Rattle.pack.specs.Fits.{Fits, SampleFits}
 use Rattle.pack.specs.Sound.{settingsSound, timersSound, packSound, soundOf}
@@ -50,6 +50,8 @@ start-sound u first h =
     (record {
       settings = settings-sound _ (record { design = f .design; voltage = f .voltage });
       tank = tank-sound _ (record { full = f .full; charge = mul-le-mul-right 3600000 (f .remaining) });
+      toward = toward-sound (u .DesignCapacity) 0 (omega (arith, f .design));
+      run = run-sound _ (record { most = omega arith; none = λ e. refl });
       recent = zero-sound;
       timers = refl;
     }))
@@ -90,7 +92,7 @@ zero-fits =
             host = record { ManufacturerAccess = omega arith; RemainingCapacityAlarm = omega arith; RemainingTimeAlarm = omega arith; AtRate = omega arith };
             latest = record { voltage = omega arith; current = omega arith; temperature = omega arith; counter = omega arith };
             recent = zero-recent-fits;
-            tank = record { charge = omega arith; full = omega arith; CycleCount = omega arith };
+            tank = record { charge = omega arith; full = omega arith; CycleCount = omega arith; toward = omega arith; drawn = omega arith };
             timers = record { hold = omega arith; alarm = omega arith; charger = omega arith };
           };
     }
@@ -123,7 +125,7 @@ first-fits u first f x =
                 };
             latest = kept-fits first x;
             recent = zero-recent-fits;
-            tank = record { charge = omega (arith, f .remaining); full = f .full; CycleCount = f .CycleCount };
+            tank = record { charge = omega (arith, f .remaining); full = f .full; CycleCount = f .CycleCount; toward = omega arith; drawn = omega arith };
             timers = record { hold = omega arith; alarm = omega arith; charger = omega arith };
           };
     }

@@ -50,7 +50,7 @@ hostOf u =
       CapacityMode = false;
     }
 
--- charge in mA·ms; bit 4 is decided at set-up from clear (RULES 3.9, 6.23)
+-- charge in mA·ms; bit 4 is decided at set-up from clear; nothing is drawn toward the next cycle; a run opens when set-up leaves the pack full (RULES 3.9, 3.10, 6.23, 7.11)
 abbrev pub tankOf : Setup → Tank
 tankOf u =
     record {
@@ -58,6 +58,8 @@ tankOf u =
       full = u .full;
       CycleCount = u .CycleCount;
       FullyDischarged = fullyDischargedOf false (milliampMs (u .remaining)) (u .full);
+      toward = 0;
+      run = record { opened = eqb (u .remaining) (u .full); drawn = 0 };
     }
 
 -- no hold, the alarm timer begins at 10,000, the charger timer at 0 (RULES 3.10)
@@ -108,7 +110,7 @@ abbrev pub zeroLatest : Latest
 zeroLatest = record { voltage = 0; current = 0; temperature = 0; counter = 0 }
 
 abbrev pub zeroTank : Tank
-zeroTank = record { charge = 0; full = 0; CycleCount = 0; FullyDischarged = false }
+zeroTank = record { charge = 0; full = 0; CycleCount = 0; FullyDischarged = false; toward = 0; run = record { opened = false; drawn = 0 } }
 
 abbrev pub zeroTimers : Timers
 zeroTimers = record { hold = 0; alarm = 0; charger = 0 }

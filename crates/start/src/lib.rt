@@ -5,6 +5,7 @@ ghost use Rattle.start.specs.SetUp.{setUpOf, setUpRefused, packOf, setti
 use pack::Host;
 use pack::Latest;
 use pack::Pack;
+use pack::Run;
 use pack::Sample;
 use pack::Settings;
 use pack::State;
@@ -76,11 +77,17 @@ fn zero_latest() -> Latest
 fn zero_tank() -> Tank
     ensures { λ r. ⌜ r ≡ zeroTank ⌝ }
 {
+    let run = Run {
+        opened: false,
+        drawn: 0,
+    };
     Tank {
         charge: 0,
         full: 0,
         CycleCount: 0,
         FullyDischarged: false,
+        toward: 0,
+        run: run,
     }
 }
 
@@ -155,11 +162,17 @@ fn tank_of(u: Setup) -> Tank
     let charge = capacity::milliamp_ms(u.remaining);
     let full = u.full;
     let empty = capacity::fully_discharged(false, charge, full);
+    let run = Run {
+        opened: u.remaining == full,
+        drawn: 0,
+    };
     Tank {
         charge: charge,
         full: full,
         CycleCount: u.CycleCount,
         FullyDischarged: empty,
+        toward: 0,
+        run: run,
     }
 }
 

@@ -1,25 +1,74 @@
--- Charge stays between 0 and full.
+-- Charge stays between 0 and full, the learned one too, and the two counts within their bounds.
 -- Assumes nothing.
-use Prim.Native.Nat.{ℕ, _+_, _-_, _*_, _≤_, min}
-use mathlib.Core.Bool.{Bool, true, false, cond}
-use mathlib.Core.Path.{_≡_}
+use Prim.Native.Nat.{ℕ, _+_, _-_, _*_, _<_, _≤_, min}
+use mathlib.Core.Bool.{Bool, true, false, cond, _||_, true≢false}
+use mathlib.Core.Path.{_≡_, refl}
+use native.Mathlib.Nat.{mod-lt}
 use native.Mathlib.Omega.{arith}
 use Rattle.capacity.specs.Capacity.{milliampMs}
-use Rattle.pack.proofs.Soundness.{tank-facts, tank-sound}
-use Rattle.pack.specs.Sound.{tankSound}
+use Rattle.cycles.specs.Cycles.{drawnBy}
+use Rattle.learning.specs.Learning.{countsOn, drawnIn, learned}
+use Rattle.pack.proofs.Soundness.{tank-facts, tank-sound, toward-fact, toward-sound, run-sound}
+use Rattle.pack.specs.Sound.{tankSound, towardSound, runSound}
+use Rattle.pack.specs.declared.Latest.{Latest}
+use Rattle.pack.specs.declared.Settings.{Settings}
 use Rattle.pack.specs.declared.Tank.{Tank}
-use Rattle.tank.specs.Charge.{chargeAfter, tankAfter}
+use Rattle.tank.specs.Charge.{chargeAfter}
+use Rattle.tank.specs.Tank.{seenOf, closed, chargeMoved, tankAfter}
 use Rattle.words.specs.Words.{below, sizeOf}
 
-held : (b : Bool) (charge top flow : ℕ) → charge ≤ top → cond b (charge - flow) (min top (charge + flow)) ≤ top
+-- what holds of both of two numbers holds of the chosen
+pub most : (b : Bool) (x y limit : ℕ) → x ≤ limit → y ≤ limit → cond b x y ≤ limit
+most true x y limit f g = f
+most false x y limit f g = g
+
+pub some : (b : Bool) (x y : ℕ) → 0 < x → 0 < y → 0 < cond b x y
+some true x y f g = f
+some false x y f g = g
+
+pub held : (b : Bool) (charge top flow : ℕ) → charge ≤ top → cond b (charge - flow) (min top (charge + flow)) ≤ top
 held true charge top flow h = omega arith
 held false charge top flow h = omega arith
 
 pub charge-held : (charge full current elapsed : ℕ) → charge ≤ milliampMs full → chargeAfter charge full current elapsed ≤ milliampMs full
 charge-held charge full current elapsed h = held (below current) charge (milliampMs full) (sizeOf current * elapsed) h
 
--- a sample leaves a sound tank sound
-pub after-sound : (t : Tank) (current elapsed : ℕ) → tankSound t ≡ true → tankSound (tankAfter t current elapsed) ≡ true
-after-sound t current elapsed h =
-    let f = tank-facts t h in
-    tank-sound (tankAfter t current elapsed) (record { full = f .full; charge = charge-held (t .charge) (t .full) current elapsed (f .charge) })
+close-held : (b : Bool) (charge full new : ℕ) → charge ≤ milliampMs full → cond b 0 charge ≤ milliampMs (cond b new full)
+close-held true charge full new h = omega arith
+close-held false charge full new h = h
+
+none-open : (a b : Bool) (n : ℕ) → a || b ≡ false → cond b n 0 ≡ 0
+none-open true b n h = absurd (true≢false h)
+none-open false true n h = absurd (true≢false h)
+none-open false false n h = refl
+
+module _ (s : Settings) (t : Tank) (x : Latest) (elapsed : ℕ) where
+  -- a sample leaves a sound tank sound
+  pub after-sound : tankSound t ≡ true → tankSound (tankAfter s t x elapsed) ≡ true
+  unfolding tankAfter
+  after-sound h =
+      let f = tank-facts t h in
+      let v = seenOf s t x elapsed in
+      tank-sound _
+      (record {
+        full = some (closed s t x elapsed) (learned (t .run) v) (t .full) (omega arith) (f .full);
+        charge = close-held (closed s t x elapsed) (chargeMoved t x elapsed) (t .full) (learned (t .run) v) (charge-held (t .charge) (t .full) (x .current) elapsed (f .charge));
+      })
+
+  -- what is kept toward the next cycle stays less than one design capacity
+  pub toward-after : towardSound (s .DesignCapacity) (t .toward) ≡ true → towardSound (s .DesignCapacity) (tankAfter s t x elapsed .toward) ≡ true
+  unfolding tankAfter
+  toward-after h =
+      let f = toward-fact (s .DesignCapacity) (t .toward) h in
+      toward-sound _ _ (mod-lt (t .toward + drawnBy (x .current) elapsed) (omega (arith, f)))
+
+  -- whatever the run was, it is sound after a sample
+  pub run-after : runSound (tankAfter s t x elapsed .run) ≡ true
+  unfolding tankAfter
+  run-after =
+      let v = seenOf s t x elapsed in
+      run-sound _
+      (record {
+        most = most (countsOn (t .run) v) (drawnIn (t .run) v) 0 (milliampMs 65535) (omega arith) (omega arith);
+        none = λ e. none-open (v .filled) (countsOn (t .run) v) (drawnIn (t .run) v) e;
+      })

@@ -1,1 +1,2 @@
 pub mod Charge
+pub mod Steps

@@ -1,18 +1,31 @@
-// What a sample does to the charge and to bit 4. Only our own crates call it.
+// What a sample does to charge, cycles, the run, full and bit 4. Only our own crates call it.
 ghost use mathlib.Core.Path.{_≡_};
-ghost use mathlib.Core.Bool.{true};
-ghost use Prim.Native.Nat.{_+_, _-_, _*_, _≤_, min};
-ghost use Rattle.tank.specs.Charge.{chargeAfter, tankAfter};
-ghost use Rattle.pack.specs.Sound.{tankSound};
+ghost use mathlib.Core.Bool.{true, cond};
+ghost use Prim.Native.Nat.{_+_, _-_, _*_, _<_, _≤_, min};
+ghost use Rattle.tank.specs.Charge.{chargeAfter};
+ghost use Rattle.tank.specs.Tank.{tankAfter};
+ghost use Rattle.learning.specs.Learning.{learned};
+ghost use Rattle.pack.specs.Sound.{tankSound, towardSound, runSound};
 ghost use Rattle.capacity.specs.Capacity.{milliampMs};
+ghost use Rattle.words.specs.Words.{below, sizeOf};
+use learning::Seen;
+use pack::Latest;
+use pack::Run;
+use pack::Settings;
 use pack::Tank;
 
+// Charge and full, which a close sets together.
+struct Level {
+    charge: u64,
+    full: u16,
+}
+
 // What flows: current × elapsed, in mA·ms.
-fn flowed(size: u32, elapsed: u32) -> u64
-    requires { ⌜ size ≤ 32768 ⌝ }
-    ensures { λ r. ⌜ r ≡ size * elapsed ⌝ }
+fn flowed(current: u16, elapsed: u32) -> u64
+    ensures is { λ r. ⌜ r ≡ sizeOf current * elapsed ⌝ }
+    ensures small { λ r. ⌜ r ≤ 32768 * 4294967295 ⌝ }
 {
-    capacity::product(elapsed as u64, size as u16)
+    capacity::product(elapsed as u64, words::size(current) as u16)
 }
 
 fn less(charge: u64, flow: u64) -> u64
@@ -32,26 +45,60 @@ fn more(charge: u64, flow: u64, top: u64) -> u64
     }
 }
 
-fn charge_after(charge: u64, full: u16, current: u16, elapsed: u32) -> u64
-    requires { ⌜ charge ≤ milliampMs full ⌝ }
-    ensures { λ r. ⌜ r ≡ chargeAfter charge full current elapsed ⌝ }
+fn moved(charge: u64, top: u64, current: u16, flow: u64) -> u64
+    requires { ⌜ charge ≤ top ⌝ }
+    ensures { λ r. ⌜ r ≡ cond (below current) (charge - flow) (min top (charge + flow)) ⌝ }
 {
-    let flow = flowed(words::size(current), elapsed);
     if words::falls(current) {
         return less(charge, flow);
     }
-    more(charge, flow, capacity::milliamp_ms(full))
+    more(charge, flow, top)
 }
 
-// Bit 4 is decided by the new charge.
-pub fn sampled(t: Tank, current: u16, elapsed: u32) -> Tank
-    requires { ⌜ tankSound t ≡ true ⌝ }
-    ensures { λ r. ⌜ r ≡ tankAfter t current elapsed ⌝ }
+// A close sets full to what was learned, and charge to 0.
+fn left(closed: bool, u: Run, v: Seen, charge: u64, full: u16) -> Level
+    requires { ⌜ (u .drawn ≤ milliampMs 65535) × (v .drawn ≤ 32768 * 4294967295) ⌝ }
+    ensures charge { λ r. ⌜ r .charge ≡ cond closed 0 charge ⌝ }
+    ensures full { λ r. ⌜ r .full ≡ cond closed (learned u v) full ⌝ }
 {
-    let charge = charge_after(t.charge, t.full, current, elapsed);
-    let empty = capacity::fully_discharged(t.FullyDischarged, charge, t.full);
-    let mut q = t;
-    q.charge = charge;
-    q.FullyDischarged = empty;
-    q
+    if closed {
+        return Level {
+            charge: 0,
+            full: learning::full_learned(u, v),
+        };
+    }
+    Level {
+        charge: charge,
+        full: full,
+    }
+}
+
+// In the rule's order: charge; charge drawn and cycles; the run and its close; bit 4.
+pub fn sampled(s: Settings, t: Tank, x: Latest, elapsed: u32) -> Tank
+    requires { ⌜ (tankSound t ≡ true) × (towardSound (s .DesignCapacity) (t .toward) ≡ true) × (runSound (t .run) ≡ true) ⌝ }
+    ensures { λ r. ⌜ r ≡ tankAfter s t x elapsed ⌝ }
+{
+    let flow = flowed(x.current, elapsed);
+    let top = capacity::milliamp_ms(t.full);
+    let charge = moved(t.charge, top, x.current, flow);
+    let drawn = cycles::drawn(x.current, flow);
+    let cycles = cycles::counted(s.DesignCapacity, t.CycleCount, t.toward, drawn);
+    let seen = Seen {
+        filled: charge == top,
+        rises: words::rises(x.current),
+        ends: pack::discharge_ends(x.voltage, x.current, s.DischargeLimit),
+        drawn: drawn,
+    };
+    let closed = learning::run_closes(t.run, seen);
+    let level = left(closed, t.run, seen, charge, t.full);
+    let run = learning::run_after(t.run, seen);
+    let empty = capacity::fully_discharged(t.FullyDischarged, level.charge, level.full);
+    Tank {
+        charge: level.charge,
+        full: level.full,
+        CycleCount: cycles.count,
+        FullyDischarged: empty,
+        toward: cycles.toward,
+        run: run,
+    }
 }

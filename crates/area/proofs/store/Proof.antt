@@ -42,7 +42,7 @@ returns-3 c =
                 record { ManufacturerAccess = omega (arith, known); RemainingCapacityAlarm = omega (arith, known); RemainingTimeAlarm = omega (arith, known); AtRate = omega (arith, known) };
             latest = record { voltage = omega (arith, known); current = omega (arith, known); temperature = omega (arith, known); counter = omega (arith, known) };
             recent = e .1;
-            tank = record { charge = omega (arith, known); full = omega (arith, known); CycleCount = omega (arith, known) };
+            tank = record { charge = omega (arith, known); full = omega (arith, known); CycleCount = omega (arith, known); toward = omega (arith, known); drawn = omega (arith, known) };
             timers = record { hold = omega (arith, known); alarm = omega (arith, known); charger = omega (arith, known) };
           };
     } in

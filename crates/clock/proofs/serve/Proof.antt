@@ -16,7 +16,7 @@ use Rattle.clock.proofs.serve.Statement.{statement}
 use Rattle.clock.proofs.serve.Tie as tie
 
 moved-requires : tie.Need-moved-requires
-moved-requires c κs = let f = parts _ (pack-of-sound (c .before .args .s) (c .before .pre .0)) in (f .tank, f .recent, f .timers)
+moved-requires c κs = parts _ (pack-of-sound (c .before .args .s) (c .before .pre .0))
 
 alarm-goes-requires : tie.Need-alarm-goes-requires
 alarm-goes-requires c κs =

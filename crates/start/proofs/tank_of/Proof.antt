@@ -5,7 +5,7 @@ use Rattle.start.proofs.tank_of.Statement.{statement}
 use Rattle.start.proofs.tank_of.Tie as tie
 
 returns : tie.Need-returns
-returns c = simp (c .fully-discharged .ensures, c .before .milliamp-ms .ensures .0)
+returns c = simp (c .before .fully-discharged .ensures, c .before .before .milliamp-ms .ensures .0)
 
 pub tank-of-spec : {M : Type 1} → statement M
 tank-of-spec = tie.close (tie.spec (search needs) (search needs) returns)

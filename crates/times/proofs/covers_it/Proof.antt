@@ -9,18 +9,19 @@ use Rattle.pack.proofs.Soundness.{tank-facts}
 use Rattle.times.proofs.covers_it.Statement.{statement}
 use Rattle.times.proofs.covers_it.Tie as tie
 
+a-word : (c : tie.Start) → (c .args .p .settings .DesignVoltage ≤ 65535) × (c .args .p .tank .full ≤ 65535)
+a-word c = (omega arith, omega arith)
+
 product-requires : tie.Need-product-requires
 product-requires c κs =
-    omega (arith, tank-facts (c .before .before .before .before .args .p .tank) (c .before .before .before .before .pre) .charge)
-
-a-word : (c : tie.Start) → c .args .p .settings .DesignVoltage ≤ 65535
-a-word c = omega arith
+    let start = c .before .before .before .before in
+    omega (arith, tank-facts (start .args .p .tank) (start .pre) .charge, a-word start .1)
 
 add-asked : tie.Need-add-asked
 add-asked c =
     let u = c .before .before in
     let d = u .before .before in
-    omega (arith, mul-le-mul (d .present-discharge .ensures .1) (a-word (d .before .before)), u .product16 .ensures, c .product162 .ensures, d .before .size .ensures .1)
+    omega (arith, mul-le-mul (d .present-discharge .ensures .1) (a-word (d .before .before) .0), u .product16 .ensures, c .product162 .ensures, d .before .size .ensures .1)
 
 returns : tie.Need-returns
 returns c =
