@@ -1,18 +1,22 @@
--- A sample adds current × elapsed to the charge, in integers, held between 0 and full.
+-- A sample adds current × elapsed to the charge, in integers, held between 0 and full, and draws its magnitude.
 -- Assumes nothing.
 use Prim.Native.Nat.{ℕ, zero, suc, _+_, _-_, _*_, _<_, _≤_, min}
+use mathlib.Core.Bool.{Bool, cond}
 use mathlib.Core.Path.{_≡_, refl, ap, _∙_, sym}
 use native.Mathlib.Omega.{arith}
 use borrow.Author.Tests.{lt-ltb, le-ltb, le-leb, lt-leb}
-use lib.IntN.{ℤ, pos, negℤ, subℕ, _+ℤ_, _*ℤ_}
+use lib.IntN.{ℤ, pos, natAbs, negℤ, subℕ, _+ℤ_, _*ℤ_}
+use lib.Signed.{ltZ}
 use mir.Syntax.{w16}
 use mir.Val.{toZ, ofZ}
 use mir.ValLaws.{toZ-ofZ}
 use Rattle.tank.specs.Charge.{chargeAfter}
-use Rattle.clock_laws.specs.Promises.{ChargeTrue}
+use Rattle.clock_laws.specs.Promises.{ChargeTrue, DrawnTrue}
 use Rattle.clock_laws.specs.Steps.{heldTo}
 use Rattle.pack.proofs.Kept.{word-fits}
-use Rattle.words.proofs.Integers.{split}
+use Rattle.cycles.specs.Cycles.{drawnBy}
+use Rattle.words.proofs.Integers.{split, below-is, size-is}
+use Rattle.words.specs.Words.{sizeOf}
 use Rattle.capacity.specs.Capacity.{milliampMs}
 
 -- a number of 0 or above is held to the top
@@ -49,3 +53,16 @@ pub charge-true : ChargeTrue
 charge-true charge full elapsed x f l =
     charge-step charge full (ofZ w16 (x .current)) elapsed (word-fits (x .current) f) l
     ∙ ap (λ (z : ℤ). heldTo (pos (milliampMs full)) (pos charge +ℤ z *ℤ pos elapsed)) (toZ-ofZ w16 (x .current) f)
+
+-- by the word of the current
+drawn-step : (word elapsed : ℕ) → word < 65536
+    → drawnBy word elapsed ≡ cond (ltZ (toZ w16 word) (pos 0)) (natAbs (toZ w16 word) * elapsed) 0
+drawn-step word elapsed w =
+    ap (λ (b : Bool). cond b (sizeOf word * elapsed) 0) (below-is word)
+    ∙ ap (λ (n : ℕ). cond (ltZ (toZ w16 word) (pos 0)) (n * elapsed) 0) (size-is word w)
+
+-- a sample with current below 0 draws its magnitude × elapsed
+pub drawn-true : DrawnTrue
+drawn-true elapsed x f =
+    drawn-step (ofZ w16 (x .current)) elapsed (word-fits (x .current) f)
+    ∙ ap (λ (z : ℤ). cond (ltZ z (pos 0)) (natAbs z * elapsed) 0) (toZ-ofZ w16 (x .current) f)

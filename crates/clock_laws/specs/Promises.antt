@@ -1,17 +1,19 @@
 -- Document 01, Clock and broadcasts, over one sample: the theorems that `proofs/` proves.
 -- Assumes nothing.
 use Prim.Native.Nat.{ℕ, _-_, _*_, _%_, _^_, _≤_, _<_}
-use mathlib.Core.Bool.{true, false}
+use mathlib.Core.Bool.{true, false, cond}
 use mathlib.Core.List.{List}
 use mathlib.Core.Path.{_≡_}
-use lib.IntN.{pos, _+ℤ_, _*ℤ_}
+use lib.IntN.{pos, natAbs, _+ℤ_, _*ℤ_}
 use lib.ListN.{length, drop}
+use lib.Signed.{ltZ}
 use mir.Syntax.{w16}
 use mir.Val.{SFits}
 use Rattle.broadcasts.specs.Broadcasts.{alarmGoes, chargerGoes}
 use Rattle.clock.specs.Broadcast.{sampleOf, broadcastRoom}
 use Rattle.clock.specs.Sample.{elapsedOf}
 use Rattle.clock_laws.specs.Steps.{heldTo}
+use Rattle.cycles.specs.Cycles.{drawnBy}
 use Rattle.pack.specs.Fits.{Fits, SampleFits}
 use Rattle.pack.specs.Kept.{latestOf}
 use Rattle.pack.specs.Sound.{soundOf}
@@ -44,6 +46,12 @@ abbrev pub ChargeTrue : Type 0
 ChargeTrue =
     (charge full elapsed : ℕ) (x : Sample) → SFits w16 (x .current) → charge ≤ milliampMs full
     → pos (chargeAfter charge full (latestOf x .current) elapsed) ≡ heldTo (pos (milliampMs full)) (pos charge +ℤ x .current *ℤ pos elapsed)
+
+-- and draws, where its current is below 0, that current's magnitude × elapsed
+abbrev pub DrawnTrue : Type 0
+DrawnTrue =
+    (elapsed : ℕ) (x : Sample) → SFits w16 (x .current)
+    → drawnBy (latestOf x .current) elapsed ≡ cond (ltZ (x .current) (pos 0)) (natAbs (x .current) * elapsed) 0
 
 -- 4. while ALARM_MODE is set no alarm goes
 abbrev pub SilentInAlarmMode : Type 0

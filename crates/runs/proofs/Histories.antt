@@ -96,16 +96,19 @@ took s x n a =
       pack = accepted-pack s x (not (soundOf s)) (ltb n 16) a;
     }
 
+-- any event that isn't an accepted sample
+pub still-of : (s : State) (e : Event) → accepted s e ≡ false → Still s e
+still-of s (sample x n) a = let k = idle-none s (sample x n) a in record { none = k .1; time = k .2; pack = inl (idle-keeps s (sample x n) a) }
+still-of s (call c) a = record { none = refl; time = refl; pack = call-left s c }
+
 by-answer : (s : State) (x : Sample) (n : ℕ) (es : List Event) (b : Bool) → accepted s (sample x n) ≡ b → History (step s (sample x n)) es → History s (sample x n ∷ es)
 by-answer s x n es true a r = took-then (took s x n a) r
-by-answer s x n es false a r =
-    let k = idle-none s (sample x n) a in
-    still-then (record { none = k .1; time = k .2; pack = inl (idle-keeps s (sample x n) a) }) r
+by-answer s x n es false a r = still-then (still-of s (sample x n) a) r
 
 pub seen-through : SeenThrough
 seen-through s [] h = done
 seen-through s (call c ∷ es) h =
-    still-then (record { none = refl; time = refl; pack = call-left s c }) (seen-through (step s (call c)) es (step-sound s (call c) h))
+    still-then (still-of s (call c) refl) (seen-through (step s (call c)) es (step-sound s (call c) h))
 seen-through s (sample x n ∷ es) h =
     by-answer s x n es (accepted s (sample x n)) refl (seen-through (step s (sample x n)) es (step-sound s (sample x n) h))
 

@@ -1,6 +1,10 @@
 pub mod Histories
 pub mod Measures
 pub mod Minute
+pub mod Tank
+pub mod Charge
+pub mod Cycles
+pub mod Learned
 pub mod Rest
 pub mod Fits
 pub mod Alarms

@@ -1,4 +1,4 @@
--- Time, latest sample, recent minute and charge depend on the accepted samples only.
+-- Time, latest sample, recent minute and tank depend on the accepted samples only.
 -- Assumes nothing.
 use Prim.Native.Nat.{ℕ, _+_, _-_, _%_, _^_, _≤_}
 use mathlib.Core.Bool.{Bool, true, false, cond}
@@ -6,14 +6,10 @@ use mathlib.Core.List.{List, [], _∷_, _++_}
 use mathlib.Core.Path.{_≡_, refl, sym, ap, ap₂, _∙_, subst}
 use native.Mathlib.Omega.{arith}
 use lib.Dec.{eqb}
-use lib.IntN.{ℤ, pos}
-use Rattle.tank.proofs.Charge.{charge-held}
 use Rattle.clock.specs.Broadcast.{sampledOf}
 use Rattle.clock.specs.Sample.{elapsedOf, movedOf}
-use Rattle.clock_laws.proofs.Charge.{charge-true}
 use Rattle.clock_laws.proofs.Elapsed.{elapsed-true}
 use Rattle.start.proofs.Start.{sound-when-served}
-use Rattle.pack.specs.Kept.{latestOf}
 use Rattle.start.specs.SetUp.{setUpOf, setUpRefused, packOf, zeroState}
 use Rattle.pack.specs.Sound.{soundOf}
 use Rattle.pack.specs.declared.Pack.{Pack}
@@ -21,35 +17,48 @@ use Rattle.pack.specs.declared.Sample.{Sample}
 use Rattle.start.specs.declared.Setup.{Setup}
 use Rattle.start.specs.declared.Started.{Started}
 use Rattle.pack.specs.declared.State.{State}
-use Rattle.runs.proofs.Histories.{seen-through, still-keeps, tank-of}
+use Rattle.runs.proofs.Histories.{seen-through, still-keeps}
 use Rattle.runs.specs.Events.{Event, sample, step, run, acceptedOf, timeOf}
 use Rattle.runs.specs.Histories.{History, done, still-then, took-then}
-use Rattle.runs.specs.Promises.{TimeTrue, MeasuresOfAccepted, ChargeFrom, ChargeSinceSetUp}
-use Rattle.runs.specs.Since.{fromSetUp, Measures, measuresOf, measuresAfter, Signed16, chargeOver, Counted}
-use Rattle.capacity.specs.Capacity.{milliampMs}
+use Rattle.runs.specs.Promises.{TimeTrue, MeasuresOfAccepted}
+use Rattle.runs.specs.Since.{fromSetUp, Measures, measuresOf, measuresAfter, Counted}
 use Rattle.written.specs.Written.{packWritten}
 
 -- ---- what is measured
 
-written-measures : (p : Pack) (command word : ℕ) → measuresOf (packWritten p command word) ≡ measuresOf p
+pub written-measures : (p : Pack) (command word : ℕ) → measuresOf (packWritten p command word) ≡ measuresOf p
 unfolding packWritten
 written-measures p command word = refl
 
-pub sampled-measures : (p : Pack) (x : Sample) → measuresOf (sampledOf p x) ≡ measuresAfter (measuresOf p) (x ∷ [])
+pub sampled-measures : (p : Pack) (x : Sample) → measuresOf (sampledOf p x) ≡ measuresAfter (p .settings) (measuresOf p) (x ∷ [])
 unfolding sampledOf movedOf
 sampled-measures p x = refl
 
-measures : (s : State) (es : List Event) → History s es → measuresOf (run s es .pack) ≡ measuresAfter (measuresOf (s .pack)) (acceptedOf s es)
+-- what further samples make of a pack: a write changes nothing of it, and a sample is the first of them
+abbrev further : List Sample → Pack → Measures
+further xs p = measuresAfter (p .settings) (measuresOf p) xs
+
+written-further : (xs : List Sample) (p : Pack) (command word : ℕ) → further xs (packWritten p command word) ≡ further xs p
+unfolding packWritten
+written-further xs p command word = refl
+
+sampled-further : (xs : List Sample) (p : Pack) (x : Sample) → further xs (sampledOf p x) ≡ further (x ∷ xs) p
+unfolding sampledOf movedOf
+sampled-further xs p x = refl
+
+measures : (s : State) (es : List Event) → History s es → measuresOf (run s es .pack) ≡ further (acceptedOf s es) (s .pack)
 measures s es done = refl
 measures s es (still-then {e = e} {es = later} w r) =
+    let rest = acceptedOf (step s e) later in
     measures (step s e) later r
-    ∙ ap (λ (m : Measures). measuresAfter m (acceptedOf (step s e) later)) (still-keeps measuresOf written-measures s e w)
-    ∙ ap (λ (xs : List Sample). measuresAfter (measuresOf (s .pack)) (xs ++ acceptedOf (step s e) later)) (sym (w .none))
+    ∙ still-keeps (further rest) (written-further rest) s e w
+    ∙ ap (λ (xs : List Sample). further (xs ++ rest) (s .pack)) (sym (w .none))
 measures s es (took-then {x = x} {n = n} {es = later} k r) =
     let rest = acceptedOf (step s (sample x n)) later in
     measures (step s (sample x n)) later r
-    ∙ ap (λ (m : Measures). measuresAfter m rest) (ap measuresOf (k .pack) ∙ sampled-measures (s .pack) x)
-    ∙ ap (λ (xs : List Sample). measuresAfter (measuresOf (s .pack)) (xs ++ rest)) (sym (k .one))
+    ∙ ap (further rest) (k .pack)
+    ∙ sampled-further rest (s .pack) x
+    ∙ ap (λ (xs : List Sample). further (xs ++ rest) (s .pack)) (sym (k .one))
 
 pub measures-of-accepted : MeasuresOfAccepted
 measures-of-accepted s es h = measures s es (seen-through s es h)
@@ -92,23 +101,3 @@ set-up-pack u first = go (setUpRefused u)
     go : (b : Bool) → started b .answer ≡ 0 → started b .state .pack ≡ packOf u first
     go true a = absurd (omega (arith, a))
     go false a = refl
-
-charge-after : (m : Measures) (xs : List Sample) → m .tank .charge ≤ milliampMs (m .tank .full) → Signed16 xs
-    → pos (measuresAfter m xs .tank .charge) ≡ chargeOver (m .tank .full) (pos (m .tank .charge)) (m .latest .counter) xs
-charge-after m [] l f = refl
-charge-after m (x ∷ xs) l (f, fs) =
-    let e = elapsedOf (x .counter) (m .latest .counter) in
-    charge-after _ xs (charge-held (m .tank .charge) (m .tank .full) (latestOf x .current) e l) fs
-    ∙ ap (λ (c : ℤ). chargeOver (m .tank .full) c (x .counter) xs) (charge-true (m .tank .charge) (m .tank .full) e x f l)
-
-pub charge-from : ChargeFrom
-charge-from s es h f =
-    ap (λ (m : Measures). pos (m .tank .charge)) (measures-of-accepted s es h)
-    ∙ charge-after (measuresOf (s .pack)) (acceptedOf s es) (tank-of s h .charge) f
-
-pub charge-since-set-up : ChargeSinceSetUp
-unfolding packOf
-charge-since-set-up u first es a f =
-    let s = fromSetUp u first in
-    charge-from s es (set-up-sound u first a) f
-    ∙ ap (λ (p : Pack). chargeOver (p .tank .full) (pos (p .tank .charge)) (p .latest .counter) (acceptedOf s es)) (set-up-pack u first a)

@@ -14,6 +14,7 @@ use Rattle.pack.specs.Kept.{latestOf}
 use Rattle.pack.specs.declared.Latest.{Latest}
 use Rattle.pack.specs.declared.Pack.{Pack}
 use Rattle.pack.specs.declared.Sample.{Sample}
+use Rattle.pack.specs.declared.Settings.{Settings}
 use Rattle.recent.specs.Recent.{averageOf}
 use Rattle.seconds.specs.Seconds.{recentAfter}
 use Rattle.recent.specs.declared.Recent.{Recent}
@@ -38,13 +39,13 @@ of-samples counter (x ∷ xs) f =
 
 -- ---- the minute
 
-minute-after : (m : Measures) (xs : List Sample) (l : List ℤ) → Currents l → Signed16 xs → m .recent ≡ recentOf l
-    → measuresAfter m xs .recent ≡ recentOf (l ++ milliseconds (m .latest .counter) xs)
-minute-after m [] l h f e = e ∙ ap recentOf (sym (append-nil l))
-minute-after m (x ∷ xs) l h f e =
+minute-after : (s : Settings) (m : Measures) (xs : List Sample) (l : List ℤ) → Currents l → Signed16 xs → m .recent ≡ recentOf l
+    → measuresAfter s m xs .recent ≡ recentOf (l ++ milliseconds (m .latest .counter) xs)
+minute-after s m [] l h f e = e ∙ ap recentOf (sym (append-nil l))
+minute-after s m (x ∷ xs) l h f e =
     let time = elapsedOf (x .counter) (m .latest .counter) in
     let new = replicate time (x .current) in
-    minute-after _ xs (l ++ new) (currents-append l new h (currents-rep time (x .current) (f .0))) (f .1)
+    minute-after s _ xs (l ++ new) (currents-append l new h (currents-rep time (x .current) (f .0))) (f .1)
     (ap (λ (r : Recent). recentAfter r (latestOf x .current) time) e ∙ one-more l (x .current) time h (f .0))
     ∙ ap recentOf (append-assoc l new (milliseconds (x .counter) xs))
 
@@ -53,15 +54,15 @@ unfolding packOf
 minute-since-set-up u first es a f =
     let s = fromSetUp u first in
     ap (λ (m : Measures). m .recent) (measures-of-accepted s es (set-up-sound u first a))
-    ∙ minute-after (measuresOf (s .pack)) (acceptedOf s es) [] tt f (ap (λ (p : Pack). p .recent) (set-up-pack u first a) ∙ none-at-first)
+    ∙ minute-after (s .pack .settings) (measuresOf (s .pack)) (acceptedOf s es) [] tt f (ap (λ (p : Pack). p .recent) (set-up-pack u first a) ∙ none-at-first)
     ∙ ap (λ (p : Pack). recentOf (milliseconds (p .latest .counter) (acceptedOf s es))) (set-up-pack u first a)
 
 -- ---- register 0B
 
-latest-after : (m : Measures) (y : Sample) (xs : List Sample) → m .latest ≡ latestOf y
-    → measuresAfter m xs .latest .current ≡ ofZ w16 (latestCurrent y xs)
-latest-after m y [] e = ap (λ (l : Latest). l .current) e
-latest-after m y (x ∷ xs) e = latest-after _ x xs refl
+latest-after : (s : Settings) (m : Measures) (y : Sample) (xs : List Sample) → m .latest ≡ latestOf y
+    → measuresAfter s m xs .latest .current ≡ ofZ w16 (latestCurrent y xs)
+latest-after s m y [] e = ap (λ (l : Latest). l .current) e
+latest-after s m y (x ∷ xs) e = latest-after s _ x xs refl
 
 latest-fits : (y : Sample) (xs : List Sample) → Signed16 (y ∷ xs) → SFits w16 (latestCurrent y xs)
 latest-fits y [] f = f .0
@@ -74,7 +75,7 @@ average-since-set-up u first es a f =
     let xs = acceptedOf s es in
     let latest : run s es .pack .latest .current ≡ ofZ w16 (latestCurrent first xs) =
     ap (λ (m : Measures). m .latest .current) (measures-of-accepted s es (set-up-sound u first a))
-    ∙ latest-after (measuresOf (s .pack)) first xs (ap (λ (p : Pack). p .latest) (set-up-pack u first a)) in
+    ∙ latest-after (s .pack .settings) (measuresOf (s .pack)) first xs (ap (λ (p : Pack). p .latest) (set-up-pack u first a)) in
     let l = milliseconds (first .counter) xs in
     let all = of-samples (first .counter) xs (f .1) in
     ap (toZ w16)

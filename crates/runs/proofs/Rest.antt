@@ -2,38 +2,44 @@
 -- Assumes nothing.
 use Prim.Native.Nat.{ℕ, _≤_}
 use mathlib.Core.Bool.{Bool, true, false, cond, not}
-use mathlib.Core.List.{[], _∷_}
 use mathlib.Core.Path.{_≡_, refl, ap, _∙_}
 use borrow.Author.Tests.{le-ltb}
 use lib.Dec.{eqb, ltb}
-use lib.IntN.{ℤ, pos}
+use lib.IntN.{pos}
 use mir.Syntax.{w16}
 use mir.Val.{ofZ}
-use native.Mathlib.Omega.{arith}
-use Rattle.capacity.specs.Capacity.{milliampMs}
 use Rattle.clock.specs.Broadcast.{sampledOf, sampleOf, servedSample, refusedSample}
-use Rattle.clock.specs.Sample.{elapsedOf, movedOf}
+use Rattle.clock.specs.Sample.{movedOf}
 use Rattle.clock.specs.declared.Sampled.{Sampled}
+use Rattle.clock_laws.specs.Steps.{gap}
+use Rattle.pack.proofs.Soundness.{toward-fact, parts, pack-of-sound}
+use Rattle.pack.specs.Kept.{latestOf}
 use Rattle.pack.specs.Sound.{soundOf}
+use Rattle.pack.specs.declared.Pack.{Pack}
 use Rattle.pack.specs.declared.Sample.{Sample}
 use Rattle.pack.specs.declared.State.{State}
+use Rattle.pack.specs.declared.Tank.{Tank}
 use Rattle.runs.proofs.Histories.{step-sound, took, tank-of}
-use Rattle.runs.proofs.Measures.{sampled-measures, charge-from, time-true}
+use Rattle.runs.proofs.Charge.{counter-of, charge-from}
+use Rattle.runs.proofs.Measures.{time-true}
 use Rattle.runs.specs.Events.{sample, step, answerTo}
 use Rattle.runs.specs.Rest.{NoCurrentNoCharge, RestKeepsCharge, ChargeAfterRest, TimeAfterRest}
-use Rattle.runs.specs.Since.{Measures, measuresOf, measuresAfter}
-use Rattle.tank.specs.Charge.{chargeAfter}
+use Rattle.tank.proofs.Steps.{at-rest}
 
--- where nothing flows the charge stays
-nothing-flows : (charge full elapsed : ℕ) → charge ≤ milliampMs full → chargeAfter charge full 0 elapsed ≡ charge
-nothing-flows charge full elapsed h = omega arith
+-- the word of no current
+no-word : (x : Sample) → x .current ≡ pos 0 → latestOf x .current ≡ 0
+no-word x c = ap (ofZ w16) c
 
-nothing-added : (s : State) (x : Sample) → x .current ≡ pos 0 → soundOf s ≡ true → sampledOf (s .pack) x .tank .charge ≡ s .pack .tank .charge
+-- a sound state's tank at an accepted sample whose current is 0
+rested : (s : State) (x : Sample) → x .current ≡ pos 0 → soundOf s ≡ true
+    → let t = sampledOf (s .pack) x .tank in
+    (t .charge ≡ s .pack .tank .charge) × (t .full ≡ s .pack .tank .full) × (t .toward ≡ s .pack .tank .toward)
+    × (s .pack .tank .CycleCount ≤ 65535 → t .CycleCount ≡ s .pack .tank .CycleCount)
 unfolding sampledOf movedOf
-nothing-added s x c h =
+rested s x c h =
     let p = s .pack in
-    let e = elapsedOf (x .counter) (p .latest .counter) in
-    ap (λ (z : ℤ). chargeAfter (p .tank .charge) (p .tank .full) (ofZ w16 z) e) c ∙ nothing-flows (p .tank .charge) (p .tank .full) e (tank-of s h .charge)
+    at-rest (p .settings) (p .tank) (latestOf x) (gap p x) (no-word x c) (tank-of s h)
+    (toward-fact (p .settings .DesignCapacity) (p .tank .toward) (parts p (pack-of-sound s h) .toward))
 
 -- refused for the state or for the room it leaves all as it was
 by-answer : (s : State) (x : Sample) (b t : Bool) → (b ≡ true → sampledOf (s .pack) x .tank .charge ≡ s .pack .tank .charge)
@@ -44,7 +50,7 @@ by-answer s x true false f = f refl
 
 pub no-current-no-charge : NoCurrentNoCharge
 unfolding sampleOf
-no-current-no-charge s x n c = by-answer s x (soundOf s) (ltb n 16) (nothing-added s x c)
+no-current-no-charge s x n c = by-answer s x (soundOf s) (ltb n 16) (λ h. rested s x c h .0)
 
 -- a sample on a sound state with room enough is accepted
 served : (s : State) (x : Sample) (n : ℕ) → soundOf s ≡ true → 16 ≤ n → answerTo s (sample x n) ≡ 0
@@ -57,21 +63,23 @@ pub rest-keeps-charge : RestKeepsCharge
 rest-keeps-charge s x n r =
     let p = s .pack in
     let answer = served s x n (r .sound) (r .room) in
-    let after : measuresOf (step s (sample x n) .pack) ≡ measuresAfter (measuresOf p) (x ∷ []) =
-    ap measuresOf (took s x n (ap (λ (a : ℕ). eqb a 0) answer) .pack) ∙ sampled-measures p x in
+    let a = ap (λ (a : ℕ). eqb a 0) answer in
+    let t : step s (sample x n) .pack .tank ≡ sampledOf p x .tank = ap (λ (q : Pack). q .tank) (took s x n a .pack) in
+    let k = rested s x (r .no-current) (r .sound) in
     record {
       answer = answer;
       charge = no-current-no-charge s x n (r .no-current);
-      full = ap (λ (m : Measures). m .tank .full) after;
-      cycles = ap (λ (m : Measures). m .tank .CycleCount) after;
-      counter = ap (λ (m : Measures). m .latest .counter) after;
+      full = ap (λ (u : Tank). u .full) t ∙ k .1;
+      cycles = λ l. ap (λ (u : Tank). u .CycleCount) t ∙ k .3 l;
+      toward = ap (λ (u : Tank). u .toward) t ∙ k .2;
+      counter = counter-of s x n a;
       sound = step-sound s (sample x n) (r .sound);
     }
 
 pub charge-after-rest : ChargeAfterRest
-charge-after-rest s x n es r f =
+charge-after-rest s x n es r t f =
     let k = rest-keeps-charge s x n r in
-    charge-from (step s (sample x n)) es (k .sound) f ∙ rw (k .full, k .charge, k .counter)
+    charge-from (step s (sample x n)) es (k .sound) t f ∙ rw (k .full, k .charge, k .counter)
 
 pub time-after-rest : TimeAfterRest
 time-after-rest s x n es start stop r at = let k = rest-keeps-charge s x n r in time-true (step s (sample x n)) es start stop (k .sound) (k .counter ∙ at)

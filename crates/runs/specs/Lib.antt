@@ -3,5 +3,7 @@ pub mod Histories
 pub mod Since
 pub mod Alarms
 pub mod Struck
+pub mod Closes
 pub mod Rest
 pub mod Promises
+pub mod Learned

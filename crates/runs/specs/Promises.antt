@@ -31,6 +31,7 @@ use Rattle.recent_laws.specs.Minute.{averageOfAll}
 use Rattle.rooms.specs.Rooms.{Bytes, placed}
 use Rattle.runs.specs.Alarms.{Alarming, NoAlarm, AlarmWithin, ModeWrite, NoModeWrite}
 use Rattle.runs.specs.Events.{Event, sample, step, run, Throughout, EventFits, sent, accepted, acceptedOf, timeOf, ServedWrite, IdleEvent}
+use Rattle.runs.specs.Closes.{closedBy, ClosesNone}
 use Rattle.runs.specs.Histories.{History}
 use Rattle.runs.specs.Since.{fromSetUp, measuresOf, measuresAfter, milliseconds, latestCurrent, Signed16, chargeOver, Counted}
 use Rattle.runs.specs.Struck.{Struck, strike, SameBut, Same, Unmoved}
@@ -83,11 +84,11 @@ ReachedWords =
 
 -- ---- what is measured
 
--- latest sample, recent minute and charge depend on the accepted samples only
+-- latest sample, recent minute and tank depend on what set-up fixed and on the accepted samples only
 abbrev pub MeasuresOfAccepted : Type 0
 MeasuresOfAccepted =
     (s : State) (es : List Event) → soundOf s ≡ true
-    → measuresOf (run s es .pack) ≡ measuresAfter (measuresOf (s .pack)) (acceptedOf s es)
+    → measuresOf (run s es .pack) ≡ measuresAfter (s .pack .settings) (measuresOf (s .pack)) (acceptedOf s es)
 
 -- the kept totals are exactly those of the last 60 complete seconds since set-up, and the begun one has the rest
 abbrev pub MinuteSinceSetUp : Type 0
@@ -102,19 +103,34 @@ AverageSinceSetUp =
     → toZ w16 (wordOf (run (fromSetUp u first) es) 0x0B)
     ≡ averageOfAll (milliseconds (first .counter) (acceptedOf (fromSetUp u first) es)) (latestCurrent first (acceptedOf (fromSetUp u first) es))
 
--- from any sound state, current × elapsed of every accepted sample is added to the charge, held between 0 and full
+-- from any sound state, while no run closes, current × elapsed of every accepted sample is added to the charge, held between 0 and full
 abbrev pub ChargeFrom : Type 0
 ChargeFrom =
-    (s : State) (es : List Event) → soundOf s ≡ true → Signed16 (acceptedOf s es)
+    (s : State) (es : List Event) → soundOf s ≡ true → Throughout ClosesNone s es → Signed16 (acceptedOf s es)
     → pos (run s es .pack .tank .charge)
     ≡ chargeOver (s .pack .tank .full) (pos (s .pack .tank .charge)) (s .pack .latest .counter) (acceptedOf s es)
 
--- charge is set-up's remaining capacity and, over all accepted samples since, current × elapsed added and held between 0 and full
+-- so, till a run closes, charge is set-up's remaining capacity and, over all accepted samples since, current × elapsed added and held between 0 and full
 abbrev pub ChargeSinceSetUp : Type 0
 ChargeSinceSetUp =
-    (u : Setup) (first : Sample) (es : List Event) → setUpOf u first .answer ≡ 0 → Signed16 (acceptedOf (fromSetUp u first) es)
+    (u : Setup) (first : Sample) (es : List Event) → setUpOf u first .answer ≡ 0 → Throughout ClosesNone (fromSetUp u first) es
+    → Signed16 (acceptedOf (fromSetUp u first) es)
     → pos (run (fromSetUp u first) es .pack .tank .charge)
     ≡ chargeOver (u .full) (pos (milliampMs (u .remaining))) (first .counter) (acceptedOf (fromSetUp u first) es)
+
+-- and from a close on, till the next, it is 0 and the same, held between 0 and the full that the close left
+abbrev pub ChargeSinceClose : Type 0
+ChargeSinceClose =
+    (s : State) (x : Sample) (n : ℕ) (es : List Event) → soundOf s ≡ true → accepted s (sample x n) ≡ true → closedBy s x ≡ true
+    → Throughout ClosesNone (step s (sample x n)) es → Signed16 (acceptedOf (step s (sample x n)) es)
+    → pos (run s (sample x n ∷ es) .pack .tank .charge)
+    ≡ chargeOver (step s (sample x n) .pack .tank .full) (pos 0) (x .counter) (acceptedOf (step s (sample x n)) es)
+
+-- charge is never above full, the learned one too, so 0F is never above 10
+abbrev pub ChargeAtMostFull : Type 0
+ChargeAtMostFull =
+    (s : State) (es : List Event) → soundOf s ≡ true
+    → (run s es .pack .tank .charge ≤ milliampMs (run s es .pack .tank .full)) × (wordOf (run s es) 0x0F ≤ wordOf (run s es) 0x10)
 
 -- ---- what is sent
 

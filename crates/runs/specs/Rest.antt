@@ -9,7 +9,8 @@ use lib.IntN.{pos}
 use Rattle.pack.specs.Sound.{soundOf}
 use Rattle.pack.specs.declared.Sample.{Sample}
 use Rattle.pack.specs.declared.State.{State}
-use Rattle.runs.specs.Events.{Event, sample, step, run, answerTo, acceptedOf, timeOf}
+use Rattle.runs.specs.Closes.{ClosesNone}
+use Rattle.runs.specs.Events.{Event, sample, step, run, Throughout, answerTo, acceptedOf, timeOf}
 use Rattle.runs.specs.Since.{Signed16, chargeOver, Counted}
 
 -- a sample whose current is 0 changes no charge, whatever its counter says: in any state, in any room, accepted or not (RULES 7.8)
@@ -28,7 +29,8 @@ pub record Rested (s : State) (x : Sample) (n : ℕ) : Type 0 where
   pub answer : answerTo s (sample x n) ≡ 0
   pub charge : step s (sample x n) .pack .tank .charge ≡ s .pack .tank .charge
   pub full : step s (sample x n) .pack .tank .full ≡ s .pack .tank .full
-  pub cycles : step s (sample x n) .pack .tank .CycleCount ≡ s .pack .tank .CycleCount
+  pub cycles : s .pack .tank .CycleCount ≤ 65535 → step s (sample x n) .pack .tank .CycleCount ≡ s .pack .tank .CycleCount
+  pub toward : step s (sample x n) .pack .tank .toward ≡ s .pack .tank .toward
   pub counter : step s (sample x n) .pack .latest .counter ≡ x .counter
   pub sound : soundOf (step s (sample x n)) ≡ true
 
@@ -36,10 +38,11 @@ pub record Rested (s : State) (x : Sample) (n : ℕ) : Type 0 where
 abbrev pub RestKeepsCharge : Type 0
 RestKeepsCharge = (s : State) (x : Sample) (n : ℕ) → Rest s x n → Rested s x n
 
--- after any history since a rest, charge is that before it and, over the accepted samples since, current × elapsed: no reading before the rest counts (RULES 7.8)
+-- after any history since a rest in which no run closes, charge is that before it and, over the accepted samples since, current × elapsed: no reading before the rest counts (RULES 7.8)
 abbrev pub ChargeAfterRest : Type 0
 ChargeAfterRest =
-    (s : State) (x : Sample) (n : ℕ) (es : List Event) → Rest s x n → Signed16 (acceptedOf (step s (sample x n)) es)
+    (s : State) (x : Sample) (n : ℕ) (es : List Event) → Rest s x n → Throughout ClosesNone (step s (sample x n)) es
+    → Signed16 (acceptedOf (step s (sample x n)) es)
     → pos (run s (sample x n ∷ es) .pack .tank .charge)
     ≡ chargeOver (s .pack .tank .full) (pos (s .pack .tank .charge)) (x .counter) (acceptedOf (step s (sample x n)) es)
 

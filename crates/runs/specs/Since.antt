@@ -1,4 +1,4 @@
--- Since set-up: what accepted samples make of the latest sample, the recent minute and the charge.
+-- Since set-up: what accepted samples make of the latest sample, the recent minute and the tank.
 -- Assumes nothing.
 use Prim.Native.Nat.{ℕ, _-_, _%_, _^_, _≤_, _<_}
 use mathlib.Core.List.{List, [], _∷_, _++_}
@@ -14,10 +14,11 @@ use Rattle.start.specs.SetUp.{setUpOf}
 use Rattle.pack.specs.declared.Latest.{Latest}
 use Rattle.pack.specs.declared.Pack.{Pack}
 use Rattle.pack.specs.declared.Sample.{Sample}
+use Rattle.pack.specs.declared.Settings.{Settings}
 use Rattle.start.specs.declared.Setup.{Setup}
 use Rattle.pack.specs.declared.State.{State}
 use Rattle.pack.specs.declared.Tank.{Tank}
-use Rattle.tank.specs.Charge.{tankAfter}
+use Rattle.tank.specs.Tank.{tankAfter}
 use Rattle.capacity.specs.Capacity.{milliampMs}
 use Rattle.seconds.specs.Seconds.{recentAfter}
 use Rattle.recent.specs.declared.Recent.{Recent}
@@ -36,15 +37,15 @@ pub record Measures : Type 0 where
 abbrev pub measuresOf : Pack → Measures
 measuresOf p = record { latest = p .latest; recent = p .recent; tank = p .tank }
 
--- what samples one after another make of that, the oldest first
-abbrev pub measuresAfter : Measures → List Sample → Measures
-measuresAfter m [] = m
-measuresAfter m (x ∷ xs) =
-    measuresAfter
+-- what samples one after another make of that, by what set-up fixed, the oldest first
+abbrev pub measuresAfter : Settings → Measures → List Sample → Measures
+measuresAfter s m [] = m
+measuresAfter s m (x ∷ xs) =
+    measuresAfter s
     (record {
       latest = latestOf x;
       recent = recentAfter (m .recent) (latestOf x .current) (elapsedOf (x .counter) (m .latest .counter));
-      tank = tankAfter (m .tank) (latestOf x .current) (elapsedOf (x .counter) (m .latest .counter));
+      tank = tankAfter s (m .tank) (latestOf x) (elapsedOf (x .counter) (m .latest .counter));
     })
     xs
 
