@@ -34,7 +34,8 @@ static int32_t signed_number(const uint8_t **at)
 /* As many bytes as an area has, each flag 0 or 1. */
 static bool is_area(struct sb2_bytes area)
 {
-    static const size_t flags[] = {SB2_HOST_AT + 8, SB2_HOST_AT + 9, SB2_HOST_AT + 10, SB2_TANK_AT + 12};
+    static const size_t flags[] = {SB2_HOST_AT + 8, SB2_HOST_AT + 9, SB2_HOST_AT + 10, SB2_TANK_AT + 12,
+                                   SB2_TANK_AT + 29};
     if (area.length != SB2_AREA)
         return false;
     for (size_t i = 0; i < sizeof flags / sizeof *flags; i++)
@@ -81,6 +82,9 @@ static void load_tank(const uint8_t *at, struct sb2_tank *t)
     t->full_capacity = word(&at);
     t->cycle_count = word(&at);
     t->fully_discharged = number(&at, 1) == 1;
+    t->toward_cycle = number(&at, 8);
+    t->run_drawn = number(&at, 8);
+    t->run_open = number(&at, 1) == 1;
 }
 
 static void load_timers(const uint8_t *at, struct sb2_timers *t)
@@ -168,6 +172,9 @@ static void store_tank(uint8_t *at, const struct sb2_tank *t)
     put_word(&at, t->full_capacity);
     put_word(&at, t->cycle_count);
     put(&at, 1, t->fully_discharged);
+    put(&at, 8, t->toward_cycle);
+    put(&at, 8, t->run_drawn);
+    put(&at, 1, t->run_open);
 }
 
 static void store_timers(uint8_t *at, const struct sb2_timers *t)

@@ -2,7 +2,7 @@
 #include "inside.h"
 
 enum { HOST = 0x10, CHARGER = 0x12, ALARM_WARNING = 0x16, CHARGING_CURRENT = 0x14, CHARGING_VOLTAGE = 0x15 };
-enum { ALARM_BITS = 0xDB00, CHARGER_ALARM_BITS = 0xD000, ERROR_BITS = 0x000F };
+enum { ALARM_BITS = 0xDB00, CHARGER_ALARM_BITS = 0xD000, TERMINATE_DISCHARGE = 0x0800, ERROR_BITS = 0x000F };
 
 /* Subtraction in 32 bits (rule: Clock and broadcasts; worked example 11). */
 uint32_t sb2_elapsed(uint32_t before, uint32_t now)
@@ -61,6 +61,57 @@ static void add_charge(struct sb2_tank *tank, int16_t current, uint32_t elapsed)
     tank->charge = (uint64_t)charge;
 }
 
+/* What a sample draws, in mA·ms: nothing unless its current is below 0, whatever the charge is (rule: R-4). */
+static uint64_t drawn_by(int16_t current, uint32_t elapsed)
+{
+    return current < 0 ? (uint64_t)(-(int64_t)current) * elapsed : 0;
+}
+
+/* Each design capacity drawn is a cycle; what is left over is kept, at 65,535 cycles too (rule: R-4). */
+static void count_cycles(struct sb2_state *s, uint64_t drawn)
+{
+    uint64_t one_cycle = (uint64_t)s->settings.design_capacity * SB2_MS_PER_HOUR;
+    uint64_t toward = s->tank.toward_cycle + drawn;
+    uint64_t cycles = s->tank.cycle_count + toward / one_cycle;
+    s->tank.cycle_count = (uint16_t)(cycles < SB2_CYCLES_MOST ? cycles : SB2_CYCLES_MOST);
+    s->tank.toward_cycle = toward % one_cycle;
+}
+
+/* The run is over, used or not. */
+static void end_run(struct sb2_tank *tank)
+{
+    tank->run_open = false;
+    tank->run_drawn = 0;
+}
+
+/* Full becomes the whole mAh drawn in the run, at least 1; the pack is empty then (rule: R-4). */
+static void learn_full(struct sb2_tank *tank)
+{
+    uint64_t whole = tank->run_drawn / SB2_MS_PER_HOUR;
+    tank->full_capacity = (uint16_t)(whole == 0 ? 1 : whole);
+    tank->charge = 0;
+}
+
+/* After the charge: a sample that leaves the pack full opens a run at 0. Of others a charging one ends it unused, one
+ * with TERMINATE_DISCHARGE closes it, and what they draw counts, up to 65,535 mAh (rule: R-4). */
+static void follow_run(struct sb2_state *s, uint64_t drawn)
+{
+    const uint64_t most = (uint64_t)SB2_LEARNED_MOST * SB2_MS_PER_HOUR;
+    struct sb2_tank *tank = &s->tank;
+    if (tank->charge == (uint64_t)tank->full_capacity * SB2_MS_PER_HOUR) {
+        tank->run_open = true;
+        tank->run_drawn = 0;
+    } else if (tank->run_open && s->latest.current > 0) {
+        end_run(tank);
+    } else if (tank->run_open) {
+        tank->run_drawn = drawn > most - tank->run_drawn ? most : tank->run_drawn + drawn;
+        if (sb2_status(s) & TERMINATE_DISCHARGE) {
+            learn_full(tank);
+            end_run(tank);
+        }
+    }
+}
+
 /* Sets bit 4 at charge 0, clears it at 20 percent, else keeps it (rule: Registers, 16, bit 4). */
 static void decide_discharged(struct sb2_state *s)
 {
@@ -111,7 +162,8 @@ static size_t send_charger_words(struct sb2_state *s, uint32_t elapsed, uint8_t 
     return put_message(room, place, CHARGER, CHARGING_VOLTAGE, sb2_register(s, CHARGING_VOLTAGE));
 }
 
-/* 1, 2, or a sample taken: readings, minute, charge, bit 4, countdown, then the messages (rule: Clock and broadcasts). */
+/* 1, 2, or a sample taken: readings, minute, charge, cycles, the run, bit 4, countdown, then the messages (rules: Clock
+ * and broadcasts; R-4). */
 int sb2_take_sample(struct sb2_state *state, const struct sb2_sample *sample, uint8_t *room, size_t room_length,
                     size_t *length)
 {
@@ -124,6 +176,9 @@ int sb2_take_sample(struct sb2_state *state, const struct sb2_sample *sample, ui
     state->latest = *sample;
     walk_seconds(&state->minute, sample->current, elapsed);
     add_charge(&state->tank, sample->current, elapsed);
+    uint64_t drawn = drawn_by(sample->current, elapsed);
+    count_cycles(state, drawn);
+    follow_run(state, drawn);
     decide_discharged(state);
     count_timers(state, elapsed);
     size_t place = send_alarms(state, room, 0);

@@ -34,8 +34,8 @@ uint16_t sb2_pack_specification(unsigned version, unsigned revision, unsigned vo
     return (uint16_t)(version * 0x10u + revision + (voltage_scale + current_scale * 0x10u) * 0x100u);
 }
 
-/* 11 with the all-zero state, or 0 with the first state, no second complete or begun (rules: Answer numbers; Registers;
- * R-2). */
+/* 11 with the all-zero state, or 0 with the first state: no second complete or begun, nothing drawn, and a run open if
+ * the pack is full (rules: Answer numbers; Registers; R-2; R-4). */
 int sb2_set_up(struct sb2_state *state, const struct sb2_set_up *in)
 {
     struct sb2_set_up given = *in;
@@ -59,6 +59,7 @@ int sb2_set_up(struct sb2_state *state, const struct sb2_set_up *in)
     state->tank.full_capacity = given.full_capacity;
     state->tank.cycle_count = given.cycle_count;
     state->tank.fully_discharged = given.remaining_capacity == 0;
+    state->tank.run_open = given.remaining_capacity == given.full_capacity;
     state->timers.alarm = SB2_ALARM_MS;
     return SB2_SERVED;
 }
@@ -86,12 +87,21 @@ static bool minute_sound(const struct sb2_minute *m)
     return can_be(m->begun_total, m->begun_ms);
 }
 
-/* Every bound of a sound state (rules: Answer numbers, last paragraph; R-2). */
+/* Less than one design capacity toward the next cycle; a run's count within its end, and none without a run (rule:
+ * R-4). */
+static bool drawn_sound(const struct sb2_state *s)
+{
+    uint64_t run_most = s->tank.run_open ? (uint64_t)SB2_LEARNED_MOST * SB2_MS_PER_HOUR : 0;
+    return s->tank.toward_cycle < (uint64_t)s->settings.design_capacity * SB2_MS_PER_HOUR &&
+           s->tank.run_drawn <= run_most;
+}
+
+/* Every bound of a sound state (rules: Answer numbers, last paragraph; R-2; R-4). */
 bool sb2_sound(const struct sb2_state *s)
 {
     if (s->settings.design_capacity == 0 || s->tank.full_capacity == 0 || s->settings.design_voltage == 0)
         return false;
-    if (s->tank.charge > full_charge(s))
+    if (s->tank.charge > full_charge(s) || !drawn_sound(s))
         return false;
     if (!minute_sound(&s->minute))
         return false;
@@ -138,7 +148,9 @@ bool sb2_same(const struct sb2_state *a, const struct sb2_state *b)
     if (!same_minute(&a->minute, &b->minute))
         return false;
     if (a->tank.charge != b->tank.charge || a->tank.full_capacity != b->tank.full_capacity ||
-        a->tank.cycle_count != b->tank.cycle_count || a->tank.fully_discharged != b->tank.fully_discharged)
+        a->tank.cycle_count != b->tank.cycle_count || a->tank.fully_discharged != b->tank.fully_discharged ||
+        a->tank.toward_cycle != b->tank.toward_cycle || a->tank.run_drawn != b->tank.run_drawn ||
+        a->tank.run_open != b->tank.run_open)
         return false;
     return a->timers.hold == b->timers.hold && a->timers.alarm == b->timers.alarm &&
            a->timers.charger == b->timers.charger;

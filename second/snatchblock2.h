@@ -56,7 +56,9 @@ enum {
     SB2_HOLD_MS = 60000,
     SB2_ALARM_MS = 10000,
     SB2_CHARGER_MS = 30000,
-    SB2_MS_PER_HOUR = 3600000
+    SB2_MS_PER_HOUR = 3600000, /* 1 mAh in mA·ms */
+    SB2_CYCLES_MOST = 65535,
+    SB2_LEARNED_MOST = 65535 /* mAh, of a run too */
 };
 
 /* ---- the pack's state */
@@ -108,6 +110,9 @@ struct sb2_tank {
     uint16_t full_capacity; /* mAh */
     uint16_t cycle_count;
     bool fully_discharged; /* bit 4 of BatteryStatus */
+    uint64_t toward_cycle; /* drawn toward the next cycle, mA·ms */
+    uint64_t run_drawn;    /* drawn since the last sample at full, mA·ms; 0 with no run open */
+    bool run_open;         /* a run may teach the full capacity */
 };
 
 /* Times in ms, as they stood at the last sample. */
@@ -148,7 +153,7 @@ struct sb2_set_up {
 /* Makes a state: answers 0, or 11 with the all-zero state (rule: Answer numbers, 11). */
 int sb2_set_up(struct sb2_state *state, const struct sb2_set_up *in);
 
-/* Tells whether a state is sound (rules: Answer numbers, last paragraph; R-2). */
+/* Tells whether a state is sound (rules: Answer numbers, last paragraph; R-2; R-4). */
 bool sb2_sound(const struct sb2_state *state);
 
 /* Tells whether two states agree in every field, unused seconds too; where in the ring they stand doesn't count. */
@@ -166,7 +171,7 @@ uint16_t sb2_pack_specification(unsigned version, unsigned revision, unsigned vo
 uint32_t sb2_elapsed(uint32_t before, uint32_t now);
 
 /* Takes a sample and writes the messages due: answers 0, 1 or 2; *length is four bytes for
- * each message, 0 if refused (rule: Clock and broadcasts). */
+ * each message, 0 if refused (rules: Clock and broadcasts; R-2; R-4). */
 int sb2_take_sample(struct sb2_state *state, const struct sb2_sample *sample, uint8_t *room, size_t room_length,
                     size_t *length);
 
@@ -195,7 +200,8 @@ int sb2_transact(struct sb2_state *state, bool read, struct sb2_bytes message, s
  *   settings  the nine words of sb2_settings in their order
  *   host      the four words of sb2_host in their order, then its three flags
  *   latest    voltage, current and temperature of the latest sample; its counter, four bytes
- *   tank      charge, eight bytes; full capacity; cycle count; the flag of bit 4
+ *   tank      charge, eight bytes; full capacity; cycle count; the flag of bit 4; drawn toward the next cycle and drawn
+ *             in the run, eight bytes each; the flag of an open run
  *   timers    hold, alarm timer and charger timer, four bytes each
  *   recent    60 totals of complete seconds, newest first, four bytes each, in two's complement; how many are kept, one
  *             byte; the begun second's milliseconds, two bytes, and its total, four */
@@ -204,7 +210,7 @@ enum {
     SB2_HOST_AT = SB2_SETTINGS_AT + 18,
     SB2_LATEST_AT = SB2_HOST_AT + 11,
     SB2_TANK_AT = SB2_LATEST_AT + 10,
-    SB2_TIMERS_AT = SB2_TANK_AT + 13,
+    SB2_TIMERS_AT = SB2_TANK_AT + 30,
     SB2_RECENT_AT = SB2_TIMERS_AT + 12,
     SB2_AREA = SB2_RECENT_AT + 247, /* the bytes of an area */
 };

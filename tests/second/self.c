@@ -1,7 +1,7 @@
 /* Holds the second program to published facts: document 01's worked examples
  * and tables, both packets of source document 001, the check word of CRC-8 and
  * the values that 002 works out. Then to properties that document 01 states, and
- * to figures worked by hand from the words of requests R-1 and R-2. */
+ * to figures worked by hand from the words of requests R-1, R-2 and R-4. */
 #include "../../second/snatchblock2.h"
 
 #include <stdio.h>
@@ -388,6 +388,15 @@ static void answers_in_order(void)
     SOUND(t.tank.charge = UINT64_C(4000) * 3600000, true);
     SOUND(t.tank.charge = UINT64_C(4000) * 3600000 + 1, false);
     SOUND(t.tank.charge = UINT64_MAX, false);
+    SOUND(t.tank.toward_cycle = UINT64_C(14399999999), true); /* 4,000 x 3,600,000 are 14,400,000,000 */
+    SOUND(t.tank.toward_cycle = UINT64_C(14400000000), false);
+    SOUND(t.tank.toward_cycle = UINT64_MAX, false);
+    SOUND(t.tank.run_open = true, true);
+    SOUND((t.tank.run_open = true, t.tank.run_drawn = UINT64_C(235926000000)), true); /* 65,535 x 3,600,000 */
+    SOUND((t.tank.run_open = true, t.tank.run_drawn = UINT64_C(235926000001)), false);
+    SOUND((t.tank.run_open = true, t.tank.run_drawn = UINT64_MAX), false);
+    SOUND(t.tank.run_drawn = 1, false);
+    SOUND((t.tank.charge = UINT64_C(14400000000), t.tank.run_open = false), true); /* full, and no run open */
     SOUND(t.minute.count = 60, true);
     SOUND(t.minute.count = 61, false);
     SOUND((t.minute.count = 1, t.minute.total[0] = 32767000), true);
@@ -832,6 +841,295 @@ static void the_mechanic(void)
     CHECK(mean_of(&s), -733); /* 44,000 ÷ 60 */
 }
 
+/* ---- request R-4 */
+
+/* A pack of 100 mAh, 360,000,000 mA·ms, that is empty from 12,000 mV down; so many mAh are left. */
+static struct sb2_state hundred(uint16_t left, uint16_t cycles)
+{
+    struct sb2_set_up in = usual;
+    in.design_capacity = in.full_capacity = 100;
+    in.remaining_capacity = left;
+    in.cycle_count = cycles;
+    in.discharge_limit = 12000;
+    return made(in);
+}
+
+/* A current that counted for so many ms, measured just below the limit. */
+static size_t low(struct sb2_state *s, int16_t current, uint32_t ms, uint8_t sent[SB2_BROADCAST_ROOM])
+{
+    return sample(s, 11999, current, 0, s->latest.counter + ms, sent);
+}
+
+#define COUNTS(cycles, toward)                 \
+    do {                                       \
+        CHECK(word(&s, 0x17), cycles);         \
+        CHECK(s.tank.toward_cycle, toward);    \
+    } while (0)
+#define RUN(open, drawn)                       \
+    do {                                       \
+        CHECK(s.tank.run_open, open);          \
+        CHECK(s.tank.run_drawn, drawn);        \
+    } while (0)
+#define LEARNED(full)                          \
+    do {                                       \
+        RUN(false, 0);                         \
+        CHECK(word(&s, 0x10), full);           \
+        CHECK(s.tank.charge, 0);               \
+        CHECK(word(&s, 0x16) & 0x10, 0x10);    \
+    } while (0)
+
+static void cycles(void)
+{
+    /* one design capacity drawn from an empty pack: 359,999,000, then 999, then 1 mA·ms */
+    struct sb2_state s = hundred(0, 7);
+    COUNTS(7, 0);
+    run(&s, -1000, 359999);
+    COUNTS(7, 359999000);
+    run(&s, -999, 1);
+    COUNTS(7, 359999999);
+    run(&s, -1, 1);
+    COUNTS(8, 0);
+    CHECK(s.tank.charge, 0);
+    /* charge put in draws nothing, nor does rest */
+    run(&s, 32767, 4294967295u);
+    run(&s, 0, 4294967295u);
+    COUNTS(8, 0);
+    CHECK(word(&s, 0x0F), 100);
+    /* 400,000,000 are one cycle and 40,000,000; 320,000,000 more make the next */
+    run(&s, -1000, 400000);
+    COUNTS(9, 40000000);
+    run(&s, 1000, 5000);
+    COUNTS(9, 40000000);
+    run(&s, -1000, 319999);
+    COUNTS(9, 359999000);
+    run(&s, -1000, 1);
+    COUNTS(10, 0);
+    run(&s, -2000, 360000); /* two design capacities at once */
+    COUNTS(12, 0);
+    run(&s, -2000, 0);
+    COUNTS(12, 0);
+}
+
+/* 32,768 mA for 4,294,967,295 ms are 140,737,488,322,560 mA·ms. */
+static void many_cycles(void)
+{
+    struct sb2_state s = made(usual);
+    struct sb2_set_up in = usual;
+    run(&s, -32768, 4294967295u); /* 9,773 x 14,400,000,000 are 140,731,200,000,000 */
+    COUNTS(9773, 6288322560);
+    run(&s, -32768, 4294967295u); /* twice the rest is still less than one */
+    COUNTS(19546, 12576645120);
+    run(&s, -32768, 4294967295u); /* 18,864,967,680 are one more and 4,464,967,680 */
+    COUNTS(29320, 4464967680);
+    in.design_capacity = 65535; /* 596 x 235,926,000,000 are 140,611,896,000,000 */
+    s = made(in);
+    run(&s, -32768, 4294967295u);
+    COUNTS(596, 125592322560);
+    in.design_capacity = 1; /* 39,093,746 x 3,600,000 are 140,737,485,600,000 */
+    s = made(in);
+    run(&s, -32768, 4294967295u);
+    COUNTS(65535, 2722560);
+}
+
+static void last_cycle(void)
+{
+    struct sb2_state s = hundred(50, 65534);
+    run(&s, -1000, 359999);
+    COUNTS(65534, 359999000);
+    run(&s, -1000, 1);
+    COUNTS(65535, 0);
+    run(&s, -1000, 450000); /* 450,000,000 are one and 90,000,000 */
+    COUNTS(65535, 90000000);
+    run(&s, -1000, 269999);
+    COUNTS(65535, 359999000);
+    run(&s, -1000, 1);
+    COUNTS(65535, 0);
+    s = hundred(50, 65535);
+    run(&s, -1, 1);
+    COUNTS(65535, 1);
+    s = hundred(50, 65533); /* three at once */
+    run(&s, -3000, 360000);
+    COUNTS(65535, 0);
+}
+
+static void runs_open_and_end(void)
+{
+    struct sb2_state s = hundred(99, 0);
+    RUN(false, 0);
+    run(&s, -1000, 3600);
+    RUN(false, 0);
+    run(&s, 1000, 7199); /* 98 mAh and 7,199,000 of the 7,200,000 mA·ms that are missing */
+    RUN(false, 0);
+    run(&s, 1000, 1);
+    RUN(true, 0);
+    s = hundred(100, 0);
+    RUN(true, 0);
+    run(&s, -1000, 36000); /* 10 mAh; rest counts nothing, at a low voltage neither */
+    RUN(true, 36000000);
+    run(&s, 0, 36000);
+    low(&s, 0, 36000, NULL);
+    RUN(true, 36000000);
+    run(&s, 1000, 36000); /* full again: the count starts again */
+    RUN(true, 0);
+    run(&s, -1000, 36000);
+    RUN(true, 36000000);
+    run(&s, 32767, 36000); /* more than fits */
+    RUN(true, 0);
+    run(&s, -1000, 36000);
+    run(&s, 1000, 35999); /* 1,000 mA·ms below full */
+    RUN(false, 0);
+    run(&s, -1000, 3600);
+    RUN(false, 0);
+    low(&s, -1000, 3600, NULL); /* 35,999,000 back of 36,000,000 and 7,200,000 drawn: 352,799,000 left */
+    RUN(false, 0);
+    CHECK(word(&s, 0x10), 100);
+    CHECK(s.tank.charge, 352799000);
+    CHECK(word(&s, 0x16) & 0x10, 0);
+    s = hundred(100, 0); /* a charging sample of no time ends it too */
+    run(&s, -1, 1);
+    RUN(true, 1);
+    run(&s, 1, 0);
+    RUN(false, 0);
+}
+
+/* 36,000,000 twice and 35,999,000 mA·ms are 29 mAh and 3,599,000. */
+static void run_closes(void)
+{
+    uint8_t sent[SB2_BROADCAST_ROOM];
+    struct sb2_state s = hundred(100, 3);
+    CHECK(put(&s, 0x01, 33), 0);
+    run(&s, -1000, 36000);
+    sample(&s, 12000, -1000, 0, 72000, NULL); /* at the limit isn't below it */
+    RUN(true, 72000000);
+    CHECK(word(&s, 0x16) & 0x0810, 0);
+    CHECK(low(&s, -1000, 35999, sent), 3);
+    /* bits 11, 9 (0 is below 33), 8 (0 minutes), 7, 6 and 4, and the low four */
+    CHECK(memcmp(sent, "\x10\x16\xDF\x0B\x12\x14\x00\x00\x12\x15\x00\x00", 12), 0);
+    LEARNED(29);
+    COUNTS(3, 107999000);
+    CHECK(word(&s, 0x0F), 0);
+    CHECK(word(&s, 0x0D), 0);
+    CHECK(word(&s, 0x18), 100);
+    CHECK(word(&s, 0x01), 33); /* what the host wrote stays */
+    low(&s, -1000, 36000, NULL); /* none is open */
+    LEARNED(29);
+    COUNTS(3, 143999000);
+    /* 29 mAh are 104,400,000 mA·ms; a fifth of them are 20,880,000 */
+    run(&s, 1000, 20879);
+    CHECK(word(&s, 0x16) & 0x10, 0x10);
+    run(&s, 1000, 1);
+    CHECK(word(&s, 0x16) & 0x10, 0);
+    CHECK(word(&s, 0x0D), 20);
+    run(&s, 1000, 83519);
+    RUN(false, 0);
+    run(&s, 1000, 1);
+    RUN(true, 0);
+    CHECK(word(&s, 0x0D), 100);
+    CHECK(word(&s, 0x0E), 29);
+    CHECK(word(&s, 0x16) & 0x20, 0x20);
+    low(&s, -2000, 36000, NULL); /* at the first sample after full */
+    LEARNED(20);
+    COUNTS(3, 215999000);
+    s = hundred(40, 0); /* drawn since full, not since set-up: 10 mAh before, 60 and more put in, 20 drawn */
+    run(&s, -1000, 36000);
+    run(&s, 1000, 360000);
+    run(&s, -1000, 36000);
+    low(&s, -1000, 36000, NULL);
+    LEARNED(20);
+    COUNTS(0, 108000000);
+    s = hundred(100, 0); /* the closing sample makes a cycle too */
+    low(&s, -1000, 360000, NULL);
+    LEARNED(100);
+    COUNTS(1, 0);
+}
+
+/* With TERMINATE_DISCHARGE and no time the pack is still full: nothing closes. */
+static void run_at_full(void)
+{
+    struct sb2_state s = hundred(100, 0);
+    low(&s, -1000, 0, NULL);
+    CHECK(word(&s, 0x16) & 0x0830, 0x0820);
+    RUN(true, 0);
+    CHECK(word(&s, 0x10), 100);
+    CHECK(word(&s, 0x0F), 100);
+    run(&s, -1000, 3600);
+    low(&s, -1000, 0, NULL); /* below full it closes, its own count 0 */
+    LEARNED(1);
+}
+
+static void learned_least(void)
+{
+    struct sb2_state s = hundred(100, 0);
+    low(&s, -1, 1, NULL);
+    LEARNED(1);
+    s = hundred(100, 0);
+    low(&s, -1, 3599999, NULL);
+    LEARNED(1);
+    s = hundred(100, 0);
+    low(&s, -1, 7199999, NULL);
+    LEARNED(1);
+    s = hundred(100, 0);
+    low(&s, -1, 7200000, NULL);
+    LEARNED(2);
+}
+
+/* 30,000 x 7,864,199 and 29,999 mA·ms are one less than 65,535 mAh, 235,926,000,000 mA·ms. */
+static void learned_most(void)
+{
+    struct sb2_state s = hundred(100, 0);
+    run(&s, -30000, 7864199);
+    RUN(true, 235925970000);
+    run(&s, -29999, 1);
+    RUN(true, 235925999999);
+    struct sb2_state one_less = s;
+    low(&one_less, -1, 0, NULL);
+    CHECK(word(&one_less, 0x10), 65534);
+    struct sb2_state at_once = s;
+    low(&at_once, -1, 1, NULL);
+    CHECK(word(&at_once, 0x10), 65535);
+    run(&s, -1, 1);
+    RUN(true, 235926000000);
+    run(&s, -1, 1);
+    RUN(true, 235926000000);
+    run(&s, -32768, 4294967295u);
+    RUN(true, 235926000000);
+    low(&s, -32768, 4294967295u, NULL);
+    LEARNED(65535);
+    s = hundred(100, 0);
+    low(&s, -32768, 4294967295u, NULL);
+    LEARNED(65535);
+}
+
+/* 150 mAh come out of a pack of 100; filled again it has 150 percent of its design. */
+static void learned_above_design(void)
+{
+    struct sb2_state s = hundred(100, 0);
+    run(&s, -1000, 539999);
+    CHECK(s.tank.charge, 0);
+    CHECK(word(&s, 0x16) & 0x10, 0x10);
+    low(&s, -1000, 1, NULL);
+    LEARNED(150);
+    COUNTS(1, 180000000);
+    run(&s, 1000, 540000);
+    RUN(true, 0);
+    CHECK(word(&s, 0x0F), 150);
+    CHECK(word(&s, 0x0E), 150);
+    CHECK(word(&s, 0x0D), 100);
+    CHECK(word(&s, 0x18), 100);
+    CHECK(put(&s, 0x03, 0x8000), 0); /* in 10 mWh: 150 x 14,800 ÷ 10,000 */
+    CHECK(word(&s, 0x10), 222);
+    /* 65,535 mAh of a pack of 1: the word's cap */
+    struct sb2_set_up in = usual;
+    in.design_capacity = in.full_capacity = in.remaining_capacity = 1;
+    in.discharge_limit = 12000;
+    s = made(in);
+    low(&s, -32768, 4294967295u, NULL);
+    LEARNED(65535);
+    run(&s, 32767, 4294967295u);
+    CHECK(word(&s, 0x0E), 65535);
+    CHECK(word(&s, 0x0D), 100);
+}
+
 /* ---- document 01, sheets, captures and keys */
 
 static void sheets(void)
@@ -1099,6 +1397,71 @@ static void minutes_by_sums(void)
     CHECK(wrong, 0);
 }
 
+/* Request R-4 once more, from all samples since set-up. */
+struct taken {
+    int64_t drawn;
+    bool full, charged, terminate; /* left full; current above 0; TERMINATE_DISCHARGE */
+};
+
+/* The mA·ms drawn since the last sample at full, that one being at place 0 or later; −1 where no run is open after the
+ * newest sample but one. */
+static int64_t by_history(const struct taken *history, size_t newest)
+{
+    size_t last = newest;
+    int64_t drawn = 0;
+    while (!history[last].full)
+        if (last-- == 0)
+            return -1;
+    for (size_t i = last + 1; i < newest; i++)
+        if (history[i].charged || history[i].terminate)
+            return -1;
+    for (size_t i = last + 1; i <= newest; i++)
+        drawn += history[i].drawn;
+    return drawn;
+}
+
+static void runs_by_history(void)
+{
+    enum { SAMPLES = 200 };
+    static struct taken history[SAMPLES + 1];
+    unsigned wrong = 0, closings = 0;
+    for (unsigned round = 0; round < 2000; round++) {
+        struct sb2_set_up in = usual;
+        in.design_capacity = (uint16_t)(1 + draw() % 300);
+        in.full_capacity = (uint16_t)(1 + draw() % 300);
+        in.remaining_capacity = draw() % 2 ? in.full_capacity : in.full_capacity / 2;
+        in.cycle_count = (uint16_t)(draw() % 4 ? draw() % 1000 : 65535 - draw() % 50);
+        in.discharge_limit = 12000;
+        struct sb2_state s = made(in);
+        int64_t all = 0, one = in.design_capacity * INT64_C(3600000), most = INT64_C(65535) * 3600000;
+        history[0] = (struct taken){0, in.remaining_capacity == in.full_capacity, false, false};
+        for (size_t i = 1; i <= SAMPLES; i++) {
+            int64_t full = s.tank.full_capacity * INT64_C(3600000), before = (int64_t)s.tank.charge;
+            uint32_t ms = draw() % 20 ? draw() % 200000 : draw() % 50 ? 0 : draw();
+            int16_t current = (int16_t)((int32_t)(draw() % 4001) - (draw() % 3 ? 3000 : 0));
+            bool is_low = draw() % 16 == 0;
+            int64_t left = before + current * (int64_t)ms;
+            left = left < 0 ? 0 : left > full ? full : left;
+            history[i] = (struct taken){current < 0 ? -current * (int64_t)ms : 0, left == full, current > 0,
+                                        is_low && current < 0};
+            all += history[i].drawn;
+            sample(&s, is_low ? 11999 : 12000, current, 0, s.latest.counter + ms, NULL);
+            int64_t cycles = in.cycle_count + all / one, drawn = by_history(history, i);
+            bool closed = drawn >= 0 && !history[i].full && history[i].terminate;
+            int64_t learned = drawn > most ? 65535 : drawn < 3600000 ? 1 : drawn / 3600000;
+            wrong += s.tank.cycle_count != (cycles > 65535 ? 65535 : cycles);
+            wrong += (int64_t)s.tank.toward_cycle != all % one;
+            wrong += s.tank.full_capacity * INT64_C(3600000) != (closed ? learned * 3600000 : full);
+            wrong += (int64_t)s.tank.charge != (closed ? 0 : left);
+            wrong += s.tank.run_open != (drawn >= 0 && !closed && (history[i].full || !history[i].charged));
+            wrong += (int64_t)s.tank.run_drawn != (!s.tank.run_open ? 0 : drawn > most ? most : drawn);
+            closings += closed;
+        }
+    }
+    CHECK(wrong, 0);
+    CHECK(closings > 1000, true);
+}
+
 static void long_work(void)
 {
     uint8_t sheet[SB2_SHEET_ROOM];
@@ -1121,6 +1484,12 @@ static void long_work(void)
             s.minute.count = draw() % 70;
         if (draw() % 8 == 0)
             s.minute.begun_ms = draw() % 1100;
+        if (draw() % 8 == 0)
+            s.tank.toward_cycle = (uint64_t)draw() << draw() % 8;
+        if (draw() % 8 == 0)
+            s.tank.run_drawn = (uint64_t)draw() << draw() % 8;
+        if (draw() % 8 == 0)
+            s.tank.run_open = draw() % 2;
         if (draw() % 8 == 0)
             s.error_code = draw() % 12;
         if (draw() % 8 == 0)
@@ -1201,11 +1570,12 @@ static void areas(void)
     CHECK(area[SB2_TIMERS_AT + 4] | area[SB2_TIMERS_AT + 5] << 8, 10000);
     for (size_t i = SB2_RECENT_AT; i < SB2_AREA; i++)
         CHECK(area[i], 0); /* no second, none begun */
-    CHECK(SB2_AREA, 312);
+    CHECK(SB2_AREA, 329);
     for (size_t size = 0; size <= sizeof area; size++)
         CHECK(sb2_area_load(bytes(area, size), &back), size == SB2_AREA);
-    static const size_t flags[] = {SB2_HOST_AT + 8, SB2_HOST_AT + 9, SB2_HOST_AT + 10, SB2_TANK_AT + 12};
-    for (size_t i = 0; i < 4; i++) {
+    static const size_t flags[] = {SB2_HOST_AT + 8, SB2_HOST_AT + 9, SB2_HOST_AT + 10, SB2_TANK_AT + 12,
+                                   SB2_TANK_AT + 29};
+    for (size_t i = 0; i < 5; i++) {
         uint8_t kept = area[flags[i]];
         area[flags[i]] = 2;
         CHECK(sb2_area_sound(bytes(area, SB2_AREA)), false);
@@ -1248,6 +1618,38 @@ static void minute_in_area(void)
     CHECK(area[SB2_RECENT_AT + 240], 7);
     CHECK(area[SB2_RECENT_AT + 241] | area[SB2_RECENT_AT + 242] << 8, 0);
     CHECK(sb2_area_sound(bytes(area, SB2_AREA)), true);
+}
+
+/* The bytes of the tank: 90 mAh of 100 left, 258 cycles, 36,000,000 mA·ms drawn in both counts. */
+static void tank_in_area(void)
+{
+    static const uint8_t tank[30] = {0x00, 0xD9, 0x4F, 0x13, 0, 0, 0, 0, 100, 0, 0x02, 0x01, 0,
+                                     0x00, 0x51, 0x25, 0x02, 0, 0, 0, 0, 0x00, 0x51, 0x25, 0x02, 0, 0, 0, 0, 1};
+    uint8_t area[SB2_AREA];
+    struct sb2_state s = hundred(100, 258), back;
+    run(&s, -1000, 36000);
+    sb2_area_store(&s, area);
+    CHECK(memcmp(area + SB2_TANK_AT, tank, sizeof tank), 0);
+    CHECK(SB2_TIMERS_AT, 70);
+    s.tank.toward_cycle = UINT64_C(0x8877665544332211);
+    s.tank.run_drawn = UINT64_C(0x1122334455667788);
+    s.tank.run_open = false;
+    sb2_area_store(&s, area);
+    CHECK(area[SB2_TANK_AT + 13], 0x11);
+    CHECK(area[SB2_TANK_AT + 20], 0x88);
+    CHECK(area[SB2_TANK_AT + 21], 0x88);
+    CHECK(area[SB2_TANK_AT + 28], 0x11);
+    CHECK(area[SB2_TANK_AT + 29], 0);
+    CHECK(sb2_area_load(bytes(area, SB2_AREA), &back), true);
+    CHECK(sb2_same(&s, &back), true);
+    back.tank.toward_cycle ^= UINT64_C(1) << 63;
+    CHECK(sb2_same(&s, &back), false);
+    back = s;
+    back.tank.run_drawn++;
+    CHECK(sb2_same(&s, &back), false);
+    back = s;
+    back.tank.run_open = true;
+    CHECK(sb2_same(&s, &back), false);
 }
 
 /* ---- request R-1 */
@@ -1403,14 +1805,25 @@ int main(void)
     the_minute();
     long_samples();
     the_mechanic();
+    cycles();
+    many_cycles();
+    last_cycle();
+    runs_open_and_end();
+    run_closes();
+    run_at_full();
+    learned_least();
+    learned_most();
+    learned_above_design();
     sheets();
     captures();
     steps();
     keys();
     areas();
     minute_in_area();
+    tank_in_area();
     shelf();
     minutes_by_sums();
+    runs_by_history();
     long_work();
     printf("second: %u passed, %u failed\n", passed, failed);
     return failed == 0 ? 0 : 1;
