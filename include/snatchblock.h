@@ -112,23 +112,24 @@ static inline size_t snatchblock_step_next(uint64_t result) { return (size_t)(re
  * The version of the area. Every version has its own length, so that an area of another one is answered 1.
  * Bytes with a flag above 1 or with a state that isn't sound are answered 1 too, and left as they are.
  *
- * What moved in version 2, of 312 bytes: the last part, RECENT. In version 1, of 186 bytes, it held the currents of 60
- * samples; now it holds the last 60 seconds. All before it is as it was: the first SNATCHBLOCK_RECENT bytes of a sound
- * area of version 1, with zeros behind them, are a sound area of version 2 in which no second is complete.
+ * What moved: version 3 has 17 bytes more at the end of TANK. Version 2, of 312 bytes, has 60 seconds in RECENT, where
+ * version 1, of 186 bytes, had the currents of 60 samples. A sound area of either goes on as a sound one of version 3:
+ * its first 53 bytes, 17 zeros, then of version 2 the rest, of version 1 the next 12 bytes and zeros to the end. Nothing
+ * is drawn toward the next cycle then, and no run is open; coming from version 1, no second is complete.
  *
  * What is stored when, for an area in EEPROM: answers 1 to 3 don't touch it; 4 to 9 and every read store its first byte
  * alone, a served write that byte, HOST and TIMERS; a sample and a set-up store all of it.
  *
- * Stored bytes rot, and snatchblock_sound is no test for that. Keep the area's PEC beside it (snatchblock_pec of its 312
+ * Stored bytes rot, and snatchblock_sound is no test for that. Keep the area's PEC beside it (snatchblock_pec of its 329
  * bytes). Take the area back only if its PEC matches and it is sound: bytes that are all 0 have the PEC 0, and aren't
- * sound. Else set the pack up anew. Proved of these 313 bytes: the PEC shows every odd number of altered bits, all
+ * sound. Else set the pack up anew. Proved of these 330 bytes: the PEC shows every odd number of altered bits, all
  * damage within eight neighbouring bits, and two altered bits unless they stand a multiple of 127 apart. Two bits that
  * do are not seen. Of damage in other even numbers of bits about one in 128 is not seen (measured by tests/c/storage.c).
  * A store that the power cuts short is such damage: where that can happen keep two copies, and store them in turn.
  *
  * After storage, and whenever the counter started anew: the first sample has current 0 (see snatchblock_sample).
  */
-#define SNATCHBLOCK_VERSION 2
+#define SNATCHBLOCK_VERSION 3
 
 /*
  * The bytes of an area: the error code, then each part at its place. A flag is one byte, 1 or 0.
@@ -144,8 +145,11 @@ static inline size_t snatchblock_step_next(uint64_t result) { return (size_t)(re
  *   TANK        40    0      8  charge
  *                     8  2 x 2  full capacity, CycleCount
  *                    12      1  flag: FullyDischarged
- *   TIMERS      53    0  3 x 4  hold, alarm timer, charger timer, in ms
- *   RECENT      65    0 60 x 4  the last complete seconds since set-up, newest first: current x time, mA·ms, signed
+ *                    13      8  drawn toward the next cycle, mA·ms, less than one DesignCapacity
+ *                    21      8  drawn in the run, mA·ms, at most 65,535 mAh; 0 where none is open
+ *                    29      1  flag: a run is open
+ *   TIMERS      70    0  3 x 4  hold, alarm timer, charger timer, in ms
+ *   RECENT      82    0 60 x 4  the last complete seconds since set-up, newest first: current x time, mA·ms, signed
  *                   240      1  how many of them are kept, 0 to 60; what stands beyond them isn't looked at
  *                   241      2  the begun second's ms, under 1,000
  *                   243      4  its current x time
@@ -154,7 +158,7 @@ static inline size_t snatchblock_step_next(uint64_t result) { return (size_t)(re
 #define SNATCHBLOCK_HOST (SNATCHBLOCK_SETTINGS + 18)
 #define SNATCHBLOCK_LATEST (SNATCHBLOCK_HOST + 11)
 #define SNATCHBLOCK_TANK (SNATCHBLOCK_LATEST + 10)
-#define SNATCHBLOCK_TIMERS (SNATCHBLOCK_TANK + 13)
+#define SNATCHBLOCK_TIMERS (SNATCHBLOCK_TANK + 30)
 #define SNATCHBLOCK_RECENT (SNATCHBLOCK_TIMERS + 12)
 #define SNATCHBLOCK_AREA (SNATCHBLOCK_RECENT + 247)
 
@@ -170,7 +174,10 @@ bool snatchblock_sound(const uint8_t *area, size_t area_length);
 
 /* ---- set-up */
 
-/* What the pack is. All but remaining, where the charge starts, stays as it is set up. A field that isn't given is 0. */
+/*
+ * What the pack is. The charge starts at remaining; full and CycleCount start here too, and samples move all three. The
+ * rest stays as it is set up. A field that isn't given is 0.
+ */
 struct snatchblock_setup {
     uint16_t DesignCapacity;   /* mAh */
     uint16_t full;             /* FullChargeCapacity, mAh */
@@ -226,6 +233,15 @@ static inline uint32_t snatchblock_set_up_from(uint8_t *area, size_t area_length
  * last 60 whole seconds since set-up, or as many as there are, cut toward zero; the begun second isn't in it, and before
  * the first is complete it is the latest current. So it is a minute's mean however often samples come.
  *
+ * CycleCount goes up by 1 for each DesignCapacity that was drawn, and stops at 65,535. A current below 0 draws, even
+ * where the charge is already 0; charging and rest draw nothing.
+ *
+ * A discharge from full down to TERMINATE_DISCHARGE, with no charging between, teaches the pack its full capacity. Such
+ * a run opens where set-up or a sample leaves the pack full. Of the samples below full one that charges ends it unused;
+ * the first with TERMINATE_DISCHARGE set closes it: FullChargeCapacity is now what was drawn since the pack was last
+ * full, in whole mAh, 1 to 65,535, be it above DesignCapacity; and the charge is 0, in this sample's alarm already. One
+ * dip below DischargeLimit closes a run too: set that limit where the pack is empty under its usual load.
+ *
  * A broadcast is a message of four bytes that the pack itself sends as the bus's master: address (10 the host, 12 the
  * charger), command, low, high; no PEC. The driver sends them in their order. The specification allows none in the first
  * 10 s after the bus came on: those the driver drops. A lost one isn't made up; the next comes 10 or 30 s later.
@@ -234,7 +250,8 @@ static inline uint32_t snatchblock_set_up_from(uint8_t *area, size_t area_length
  * 2^32 ms (49.7 days) apart and the counter ran on between them. After storage, after a restart of the counter, in
  * doubt: bring a sample with current 0 first. It is proved to change no charge, whatever its counter says, and the next
  * sample counts from its reading. The hold, the two timers and the minute move by what the counter shows. Any other
- * current there adds current x a wrong elapsed, up to 1,193 hours of it, and the pack reads empty or full.
+ * current there adds current x a wrong elapsed, up to 1,193 hours of it: the pack reads empty or full, counts cycles
+ * that weren't, and may learn a wrong full capacity.
  */
 uint32_t snatchblock_sample(uint8_t *area, size_t area_length, uint16_t voltage, int16_t current,
                             uint16_t temperature, uint32_t counter, uint8_t *room, size_t room_length);
