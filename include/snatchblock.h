@@ -114,8 +114,8 @@ static inline size_t snatchblock_step_next(uint64_t result) { return (size_t)(re
  *
  * What moved: version 3 has 17 bytes more at the end of TANK. Version 2, of 312 bytes, has 60 seconds in RECENT, where
  * version 1, of 186 bytes, had the currents of 60 samples. A sound area of either goes on as a sound one of version 3:
- * its first 53 bytes, 17 zeros, then of version 2 the rest, of version 1 the next 12 bytes and zeros to the end. Nothing
- * is drawn toward the next cycle then, and no run is open; coming from version 1, no second is complete.
+ * its first 53 bytes, 17 zeros, then of version 2 the rest, of version 1 the next 12 bytes and zeros to the end. So
+ * nothing is drawn toward the next cycle and no run is open; coming from version 1, no second is complete.
  *
  * What is stored when, for an area in EEPROM: answers 1 to 3 don't touch it; 4 to 9 and every read store its first byte
  * alone, a served write that byte, HOST and TIMERS; a sample and a set-up store all of it.

@@ -123,12 +123,14 @@ static void layout(void)
     const uint8_t front[] = {0, 0xA0, 0x0F, 0xD0, 0x39, 2, 0, 0x6F, 0x52, 17, 0, 0xD0, 0x07, 0xA0, 0x41, 0x6E, 0x0C, 0xF8, 0x2A,
                              0, 0, 0x90, 0x01, 10, 0, 0, 0, 0, 0, 0, 0xD0, 0x39, 0, 0, 0xA5, 0x0B, 0, 0, 0, 0,
                              /* 2,000 mAh are 7,200,000,000 mA·ms */
-                             0x00, 0x48, 0x27, 0xAD, 1, 0, 0, 0, 0xA0, 0x0F, 7, 0, 0, 0, 0, 0, 0, 0x10, 0x27, 0, 0, 0, 0, 0, 0};
+                             0x00, 0x48, 0x27, 0xAD, 1, 0, 0, 0, 0xA0, 0x0F, 7, 0, 0,
+                             0, 0, 0, 0, 0, 0, 0, 0, 0, 0, 0, 0, 0, 0, 0, 0, 0, /* nothing drawn, no run open */
+                             0, 0, 0, 0, 0x10, 0x27, 0, 0, 0, 0, 0, 0};
     CHECK(sizeof front, SNATCHBLOCK_RECENT);
     CHECK(memcmp(area, front, sizeof front), 0);
     for (size_t i = SNATCHBLOCK_RECENT; i < SNATCHBLOCK_AREA; i++)
         CHECK(area[i], 0);
-    CHECK(SNATCHBLOCK_AREA, 312);
+    CHECK(SNATCHBLOCK_AREA, 329);
 }
 
 static void put(size_t at, size_t bytes, uint64_t value)
@@ -168,6 +170,9 @@ static void soundness(void)
     border(SNATCHBLOCK_TANK, 8, 0, UINT64_MAX);
     border(SNATCHBLOCK_TANK + 8, 2, 2000, 0);
     border(SNATCHBLOCK_TANK + 12, 1, 1, 2);
+    border(SNATCHBLOCK_TANK + 13, 8, 4000ull * 3600000 - 1, 4000ull * 3600000);
+    border(SNATCHBLOCK_TANK + 21, 8, 0, 1); /* drawn in a run that isn't open */
+    border(SNATCHBLOCK_TANK + 29, 1, 1, 2);
     border(SNATCHBLOCK_TIMERS, 4, 0, 1); /* a hold without ALARM_MODE */
     border(SNATCHBLOCK_TIMERS + 4, 4, 0, 10001);
     border(SNATCHBLOCK_TIMERS + 8, 4, 29999, 30000);
@@ -886,7 +891,7 @@ static void answer_names(void)
     CHECK(sizeof names / sizeof *names, 18);
     for (unsigned i = 0; i < 18; i++)
         CHECK(names[i], i);
-    CHECK(SNATCHBLOCK_VERSION, 2);
+    CHECK(SNATCHBLOCK_VERSION, 3);
 }
 
 static uint32_t number_at(size_t at, size_t bytes)

@@ -6,7 +6,8 @@
 #include <string.h>
 
 /* The last part of the area: 60 totals of four bytes, how many are kept, the begun second's ms and its total. */
-enum { SECONDS = 60, TOTALS = 65, COUNT = TOTALS + 4 * SECONDS, BEGUN_MS = COUNT + 1, BEGUN = BEGUN_MS + 2, END = BEGUN + 4 };
+enum { SECONDS = 60, TOTALS = SNATCHBLOCK_RECENT, COUNT = TOTALS + 4 * SECONDS };
+enum { BEGUN_MS = COUNT + 1, BEGUN = BEGUN_MS + 2, END = BEGUN + 4 };
 
 #define PACKED(answer, rest) ((unsigned long long)(answer) | (unsigned long long)(rest) << 8)
 
@@ -250,9 +251,8 @@ static void readers_of_the_mean(void)
 
 static void places(void)
 {
-    CHECK(SNATCHBLOCK_RECENT, TOTALS);
+    CHECK(SNATCHBLOCK_RECENT, 82);
     CHECK(SNATCHBLOCK_AREA, END);
-    CHECK(SNATCHBLOCK_AREA, 312);
     set_up(2000, -9, 0);
     for (size_t i = TOTALS; i < END; i++)
         CHECK(area[i], 0); /* no second, none begun */
@@ -335,26 +335,6 @@ static void soundness(void)
     }
 }
 
-/* An area of version 1 is answered 1; its first part, with zeros behind it, goes on from its charge. */
-static void version_1(void)
-{
-    enum { OLD = 186 };
-    static const uint8_t ask[3] = {0x16, 0x0F, 0x17}, no_names[1] = {0};
-    uint8_t old[OLD];
-    set_up(2000, 0, 0);
-    flow(-1000, 3600000);
-    memcpy(old, area, SNATCHBLOCK_RECENT);
-    memset(old + SNATCHBLOCK_RECENT, 0, sizeof old - SNATCHBLOCK_RECENT);
-    old[OLD - 1] = 1; /* one sample was kept */
-    CHECK(snatchblock_sound(old, sizeof old), false);
-    CHECK(snatchblock_transact(old, sizeof old, no_names, 1, no_names, 1, true, ask, 3, room, sizeof room), 1);
-    memset(area, 0, sizeof area);
-    memcpy(area, old, SNATCHBLOCK_RECENT);
-    SOUND(true);
-    CHECK(word(0x0F), 1000);
-    MEAN(-1000);
-}
-
 int main(void)
 {
     before_a_second();
@@ -366,6 +346,5 @@ int main(void)
     readers_of_the_mean();
     places();
     soundness();
-    version_1();
     return checked("minute");
 }

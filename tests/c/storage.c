@@ -6,7 +6,8 @@
 #include <stdio.h>
 #include <string.h>
 
-enum { STORED = SNATCHBLOCK_AREA + 1, STORED_BITS = 8 * STORED, CHARGE = SNATCHBLOCK_TANK, COUNTER = SNATCHBLOCK_LATEST + 6 };
+enum { STORED = SNATCHBLOCK_AREA + 1, STORED_BITS = 8 * STORED };
+enum { CHARGE = SNATCHBLOCK_TANK, TOWARD = CHARGE + 13, COUNTER = SNATCHBLOCK_LATEST + 6 };
 enum { FULL = 12000, MS_PER_HOUR = 3600000 };
 
 /* ---- the pack */
@@ -112,6 +113,7 @@ static void with_a_sample_of_no_current(void)
                 write_mode(0);
                 CHECK(snatchblock_answer_of(sample(0, readings[j])), SNATCHBLOCK_SERVED);
                 CHECK(charge(), before);
+                CHECK(number_at(area + TOWARD, 8), 500ull * MS_PER_HOUR); /* autumn's hour, and nothing since */
                 CHECK(counter(), readings[j]);
                 CHECK(snatchblock_answer_of(sample(currents[k], readings[j] + 1000)), SNATCHBLOCK_SERVED);
                 CHECK(charge(), by_rule(before, currents[k], 1000));
@@ -138,6 +140,9 @@ static void without_it(void)
     CHECK(charge(), by_rule(truth, -10, turn - MS_PER_HOUR + 1000));
     CHECK(read_word(0x0D), 0);
     CHECK(by_rule(truth, -10, 1000) / MS_PER_HOUR, 10999); /* what the rule gives for the true second */
+    /* and counts a cycle: 10 x 4,291,368,296 and autumn's 1,800,000,000 mA·ms are 1,513,682,960 more than 12,000 mAh */
+    CHECK(read_word(0x17), 1);
+    CHECK(number_at(area + TOWARD, 8), 1513682960);
     /* and on the charger it reads full */
     autumn(MS_PER_HOUR);
     spring();
