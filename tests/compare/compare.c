@@ -15,7 +15,8 @@
 #include <sys/mman.h>
 #include <unistd.h>
 
-enum { LEAST = 1000000, USUAL = 2000000, GUARD = 16, AREA_MOST = 624, OLD_AREA = 186, ROOM_MOST = 200, PAGE = 4096, LENT_PAGES = 4 };
+enum { LEAST = 1000000, USUAL = 2000000, GUARD = 16, AREA_MOST = 658, ROOM_MOST = 200, PAGE = 4096, LENT_PAGES = 4 };
+enum { VERSION_1 = 186, VERSION_2 = 312 }; /* the bytes of an area in the versions before */
 
 static uint64_t seed, calls, wanted_calls;
 
@@ -300,7 +301,12 @@ enum other {
     SECONDS_DONE, SECONDS_KEPT = SECONDS_DONE + 9, WRAP_IN_SECOND = SECONDS_KEPT + 61, MEAN_OF,
     MINUTE_COUNT = MEAN_OF + 8, MINUTE_MS = MINUTE_COUNT + 6, MINUTE_BEGUN = MINUTE_MS + 5,
     MINUTE_UNDER = MINUTE_BEGUN + 5, MINUTE_OVER = MINUTE_UNDER + 5 * 60, AREA_OF_OLD = MINUTE_OVER + 5 * 60,
-    PARTS_OF = AREA_OF_OLD + 3, CARRIES = PARTS_OF + 5 * 5, OTHERS = CARRIES + 4
+    PARTS_OF = AREA_OF_OLD + 2 * 3, CARRIES = PARTS_OF + 5 * 5, CYCLES_OF = CARRIES + 4, CYCLES_END = CYCLES_OF + 4,
+    TOWARD_OF = CYCLES_END + 4, DRAWN_EMPTY = TOWARD_OF + 3, RUN_OPENS = DRAWN_EMPTY + 2, RUN_STAYS = RUN_OPENS + 5,
+    RUN_HELD = RUN_STAYS + 4, RUN_ENDS = RUN_HELD + 3, RUN_NONE = RUN_ENDS + 2, CLOSED_AFTER = RUN_NONE + 2,
+    CLOSED_WITH = CLOSED_AFTER + 4, LEARNED = CLOSED_WITH + 5, LEARNED_BY_DESIGN = LEARNED + 5,
+    ABSOLUTE = LEARNED_BY_DESIGN + 3, TANK_TOWARD = ABSOLUTE + 3, TANK_OPEN = TANK_TOWARD + 4,
+    TANK_CLOSED = TANK_OPEN + 4, TANK_FLAG = TANK_CLOSED + 4, OTHERS = TANK_FLAG + 8
 };
 static uint64_t other[OTHERS];
 
@@ -312,6 +318,7 @@ static void came_up(enum entry entry, uint64_t result)
 /* ---- what is played */
 
 static uint8_t state_area[AREA_MOST]; /* the pack's area between calls */
+static unsigned long since_full;      /* samples since set-up or the last one at full */
 static uint8_t service[145], factory[145];
 static size_t service_length, factory_length;
 
@@ -320,17 +327,30 @@ static struct sb2_bytes bytes_of(const uint8_t *at, size_t length)
     return (struct sb2_bytes){at, length};
 }
 
-/* Mostly the right size; at times another, the one of version 1 among them. */
+/* Mostly the right size; at times another, those of versions 1 and 2 among them. */
 static size_t area_size(void)
 {
     if (!one_in(40))
         return SNATCHBLOCK_AREA;
-    return one_in(4) ? OLD_AREA : below(AREA_MOST + 1);
+    return one_in(4) ? VERSION_1 : one_in(3) ? VERSION_2 : below(AREA_MOST + 1);
+}
+
+/* An area of a version before came to one of the three entries that look at it. */
+static void note_old(size_t length, unsigned entry)
+{
+    if (length == VERSION_1 || length == VERSION_2)
+        other[AREA_OF_OLD + 3 * (length == VERSION_2) + entry]++;
 }
 
 /* Where the area keeps the minute: 60 totals, how many count, the begun second's ms and its total. */
 enum { TOTALS_AT = SNATCHBLOCK_RECENT, KEPT_AT = TOTALS_AT + 4 * SB2_SECONDS, BEGUN_MS_AT = KEPT_AT + 1,
        BEGUN_AT = BEGUN_MS_AT + 2 };
+
+/* Where it keeps the tank's fields, and the most that a run counts. */
+enum { FULL_AT = SNATCHBLOCK_TANK + 8, CYCLES_AT = SNATCHBLOCK_TANK + 10, BIT_4_AT = SNATCHBLOCK_TANK + 12,
+       TOWARD_AT = SNATCHBLOCK_TANK + 13, DRAWN_AT = SNATCHBLOCK_TANK + 21, OPEN_AT = SNATCHBLOCK_TANK + 29,
+       LIMIT_AT = SNATCHBLOCK_SETTINGS + 16 };
+#define RUN_MOST (UINT64_C(65535) * SB2_MS_PER_HOUR)
 
 static uint32_t number_at(size_t at, size_t bytes)
 {
@@ -338,6 +358,11 @@ static uint32_t number_at(size_t at, size_t bytes)
     for (size_t i = 0; i < bytes; i++)
         value |= (uint32_t)state_area[at + i] << 8 * i;
     return value;
+}
+
+static uint64_t wide_at(size_t at)
+{
+    return (uint64_t)number_at(at + 4, 4) << 32 | number_at(at, 4);
 }
 
 static size_t room_size(size_t least)
@@ -358,7 +383,8 @@ static void keep_area(void)
         memcpy(state_area, area.s, SNATCHBLOCK_AREA);
 }
 
-static void play_set_up(bool likely)
+/* What set-up may be given; likely, what it serves. */
+static struct sb2_set_up some_set_up(bool likely)
 {
     struct sb2_set_up in = {
         .design_capacity = some_word(), .full_capacity = some_word(), .remaining_capacity = some_word(),
@@ -370,11 +396,15 @@ static void play_set_up(bool likely)
         in.design_capacity |= 1;
         in.full_capacity |= 1;
         in.design_voltage = (uint16_t)(1 + below(one_in(2) ? 65535 : 20000));
-        in.remaining_capacity = one_in(4) ? 0 : (uint16_t)below(in.full_capacity + 1u);
+        in.remaining_capacity = one_in(4) ? 0 : one_in(4) ? in.full_capacity : (uint16_t)below(in.full_capacity + 1u);
     }
     if (one_in(4))
         in.first.counter = 0xFFFFFFFFu - below(100000);
-    size_t length = likely ? SNATCHBLOCK_AREA : area_size();
+    return in;
+}
+
+static void play_given_set_up(struct sb2_set_up in, size_t length)
+{
     fill(state_area, length);
     lend_area(state_area, length);
     begin("set_up", 0, WRITES_AREA, false);
@@ -390,13 +420,21 @@ static void play_set_up(bool likely)
     uint32_t second = (uint32_t)sb2_area_set_up(area.s, length, &in);
     compare(proved, second);
     came_up(SET_UP, second);
+    since_full = 0;
+    if (second == SB2_SERVED)
+        other[RUN_OPENS + (in.remaining_capacity == in.full_capacity)]++;
     keep_area();
+}
+
+static void play_set_up(bool likely)
+{
+    struct sb2_set_up in = some_set_up(likely);
+    play_given_set_up(in, likely ? SNATCHBLOCK_AREA : area_size());
 }
 
 static void play_sound(size_t length)
 {
-    if (length == OLD_AREA)
-        other[AREA_OF_OLD]++;
+    note_old(length, 0);
     lend_area(state_area, length);
     begin("sound", 0, READS_AREA, false);
     bool proved = snatchblock_sound(area.p, length);
@@ -434,7 +472,7 @@ static void note_messages(size_t length, uint32_t before, uint32_t after, bool h
     other[MESSAGES_0 + length / 4]++;
     if (after < before)
         other[COUNTER_WRAPPED]++;
-    if (held && area.s[27] == 0)
+    if (held && area.s[SNATCHBLOCK_HOST + 8] == 0)
         other[HOLD_RAN_OUT]++;
     if (length >= 4 && room.s[1] == 0x16)
         for (unsigned bit = 0; bit < 16; bit++)
@@ -455,6 +493,76 @@ static void note_seconds(uint32_t elapsed, bool wrapped)
         other[WRAP_IN_SECOND]++;
 }
 
+/* The cycles that a served sample added, and what it left toward the next. */
+static void note_cycles(const struct sb2_state *was, const struct sb2_state *is, uint64_t drawn)
+{
+    uint64_t one = (uint64_t)was->settings.design_capacity * SB2_MS_PER_HOUR;
+    uint64_t more = (was->tank.toward_cycle + drawn) / one, sum = was->tank.cycle_count + more;
+    other[CYCLES_OF + (more < 2 ? more : more < 1000 ? 2 : 3)]++;
+    if (was->tank.cycle_count == 65535)
+        other[CYCLES_END + (more > 0 ? 2 : 3)] += drawn > 0;
+    else if (sum >= 65535)
+        other[CYCLES_END + (sum > 65535)]++;
+    if (drawn > 0 && is->tank.toward_cycle == 0)
+        other[TOWARD_OF]++;
+    if (drawn > 0 && is->tank.toward_cycle == one - 1)
+        other[TOWARD_OF + 1]++;
+    if (more > 0 && is->tank.toward_cycle > 0)
+        other[TOWARD_OF + 2]++;
+    if (drawn > 0 && was->tank.charge == 0)
+        other[DRAWN_EMPTY + (more > 0)]++;
+}
+
+/* A run that a served sample closed: after how many samples, with what, and what was learned. */
+static void note_closed(const struct sb2_state *was, const struct sb2_state *is, uint64_t drawn, uint64_t left,
+                        bool alarm)
+{
+    uint64_t all = was->tank.run_drawn + drawn, full = is->tank.full_capacity, design = is->settings.design_capacity;
+    bool first = was->tank.charge == (uint64_t)was->tank.full_capacity * SB2_MS_PER_HOUR;
+    other[CLOSED_AFTER + (first ? 0 : since_full < 10 ? 1 : since_full < 100 ? 2 : 3)]++;
+    other[CLOSED_WITH + (left > 0)]++;
+    if (drawn == 0)
+        other[CLOSED_WITH + 2]++;
+    if (left > 0 && !was->tank.fully_discharged)
+        other[CLOSED_WITH + 3 + alarm]++;
+    if (full == 1)
+        other[LEARNED + (all < SB2_MS_PER_HOUR ? 0 : 1)]++;
+    else
+        other[LEARNED + (all > RUN_MOST ? 4 : all == RUN_MOST ? 3 : 2)]++;
+    other[LEARNED_BY_DESIGN + (full < design ? 0 : full == design ? 1 : 2)]++;
+}
+
+/* What a served sample did to the run. Its own charge is worked out again, for a close leaves none of it. */
+static void note_tank(const struct sb2_sample *sample, size_t sent)
+{
+    struct sb2_state was, is;
+    (void)sb2_area_load(bytes_of(state_area, SNATCHBLOCK_AREA), &was);
+    (void)sb2_area_load(bytes_of(area.s, SNATCHBLOCK_AREA), &is);
+    uint64_t elapsed = sb2_elapsed(was.latest.counter, sample->counter);
+    uint64_t full = (uint64_t)was.tank.full_capacity * SB2_MS_PER_HOUR;
+    uint64_t drawn = sample->current < 0 ? (uint64_t)(-(int32_t)sample->current) * elapsed : 0;
+    uint64_t put_in = sample->current > 0 ? (uint64_t)sample->current * elapsed : 0;
+    uint64_t left = drawn > was.tank.charge ? 0 : was.tank.charge - drawn + put_in;
+    bool at_full = left >= full, low = sample->voltage < was.settings.discharge_limit;
+    bool terminate = low && sample->current < 0;
+    note_cycles(&was, &is, drawn);
+    since_full = at_full ? 0 : since_full + 1;
+    if (at_full && was.tank.run_open)
+        other[RUN_OPENS + (terminate ? 4 : was.tank.run_drawn > 0 ? 3 : 2)]++;
+    if (at_full)
+        return;
+    if (!was.tank.run_open)
+        other[RUN_NONE + terminate]++;
+    else if (sample->current > 0)
+        other[RUN_ENDS + (elapsed > 0)]++;
+    else if (terminate)
+        note_closed(&was, &is, drawn, left, sent >= 4 && room.s[1] == 0x16);
+    else
+        other[RUN_STAYS + (drawn > 0 ? 0 : low ? 1 : sample->current < 0 ? 2 : 3)]++;
+    if (is.tank.run_open && is.tank.run_drawn == RUN_MOST && drawn > 0)
+        other[RUN_HELD + (was.tank.run_drawn == RUN_MOST ? 2 : was.tank.run_drawn + drawn > RUN_MOST)]++;
+}
+
 /* Gives both the sample, and tells whether it was served. */
 static bool play_given_sample(struct sb2_sample sample, size_t length, size_t room_length)
 {
@@ -470,12 +578,12 @@ static bool play_given_sample(struct sb2_sample sample, size_t length, size_t ro
     int answer = sb2_area_take_sample(area.s, length, &sample, room.s, room.length, &sent);
     compare(proved, (uint32_t)answer | (uint32_t)sent << 8);
     came_up(SAMPLE, (uint32_t)answer);
-    if (length == OLD_AREA)
-        other[AREA_OF_OLD + 1]++;
+    note_old(length, 1);
     if (answer == SB2_SERVED) {
         note_messages(sent, before, sample.counter, held);
-        note_bit_4(state_area[SNATCHBLOCK_TANK + 12] == 1);
+        note_bit_4(state_area[BIT_4_AT] == 1);
         note_seconds(sample.counter - before, sample.counter < before);
+        note_tank(&sample, sent);
     }
     keep_area();
     return answer == SB2_SERVED;
@@ -555,6 +663,8 @@ static void note_word(uint8_t command, bool power, uint16_t word)
             other[(power ? TIME_IN_POWER : TIME_IN_MAH) + 3 * i + which]++;
     if (command == 0x07)
         other[AT_RATE_OK + 2 * power + (word != 0)]++;
+    if (command == 0x0E)
+        other[ABSOLUTE + (word <= 100 ? 0 : word < 65535 ? 1 : 2)]++;
     for (unsigned bit = 0; command == 0x16 && bit < 16; bit++)
         other[(word >> bit & 1 ? STATUS_SET : STATUS_CLEAR) + bit]++;
 }
@@ -574,8 +684,7 @@ static void play_message_in(size_t room_length, const uint8_t *message, size_t m
     int answer = sb2_area_transact(area.s, length, read, m, s, f, room.s, room.length, &sent);
     compare(proved, (uint32_t)answer | (uint32_t)sent << 8);
     came_up(TRANSACT, (uint32_t)answer);
-    if (length == OLD_AREA)
-        other[AREA_OF_OLD + 2]++;
+    note_old(length, 2);
     if (answer == SB2_SERVED || answer == SB2_OVERFLOW) {
         bool power = state_area[SNATCHBLOCK_HOST + 10] == 1;
         other[read ? READ_SERVED + 64 * power + message[1] : WRITE_SERVED + 5 * power + message[1]]++;
@@ -746,13 +855,14 @@ static void some_minute(void)
 /* Changes one field of the area to a value at one of its borders, or to anything. */
 static void bend_area(void)
 {
-    uint64_t full = (uint64_t)(state_area[SNATCHBLOCK_TANK + 8] | state_area[SNATCHBLOCK_TANK + 9] << 8) * SB2_MS_PER_HOUR;
-    switch (below(17)) {
+    uint64_t full = (uint64_t)number_at(FULL_AT, 2) * SB2_MS_PER_HOUR;
+    uint64_t one_cycle = (uint64_t)number_at(SNATCHBLOCK_SETTINGS, 2) * SB2_MS_PER_HOUR;
+    switch (below(20)) {
     case 0: put(0, 1, 5 + below(5)); break;
     case 1: put(SNATCHBLOCK_HOST + 8, 1, below(3)); break;
     case 2: put(SNATCHBLOCK_HOST + 9, 1, below(3)); break;
     case 3: put(SNATCHBLOCK_HOST + 10, 1, below(3)); break;
-    case 4: put(SNATCHBLOCK_TANK + 12, 1, below(3)); break;
+    case 4: put(BIT_4_AT, 1, below(3)); break;
     case 5: put(KEPT_AT, 1, one_in(2) ? below(3) : 59 + below(4)); break;
     case 6: put(SNATCHBLOCK_TANK, 8, full - 1 + below(3)); break;
     case 7: put(SNATCHBLOCK_TANK, 8, one_in(2) ? below(2) : draw() >> below(64)); break;
@@ -760,10 +870,13 @@ static void bend_area(void)
     case 9: put(SNATCHBLOCK_TIMERS + 4, 4, one_in(2) ? below(3) : 9999 + below(3)); break;
     case 10: put(SNATCHBLOCK_TIMERS + 8, 4, one_in(2) ? below(3) : 29998 + below(3)); break;
     case 11: put(SNATCHBLOCK_SETTINGS + 2 * below(9), 2, below(3)); break;
-    case 12: put(SNATCHBLOCK_TANK + 8, 2, below(3)); break;
+    case 12: put(FULL_AT, 2, below(3)); break;
     case 13: put(BEGUN_MS_AT, 2, one_in(2) ? below(3) : 998 + below(4)); break;
     case 14: put(BEGUN_AT, 4, border_total(below(BORDERS), number_at(BEGUN_MS_AT, 2))); break;
     case 15: put(TOTALS_AT + 4 * below(SB2_SECONDS), 4, border_total(below(BORDERS), 1000)); break;
+    case 16: put(TOWARD_AT, 8, one_cycle - 1 + below(3)); break;
+    case 17: put(DRAWN_AT, 8, one_in(2) ? below(2) : RUN_MOST - 1 + below(3)); break;
+    case 18: put(OPEN_AT, 1, below(3)); break;
     default: state_area[below(SNATCHBLOCK_AREA)] = (uint8_t)draw(); break;
     }
 }
@@ -894,10 +1007,10 @@ static void play_areas(void)
 
 /* ---- the minute */
 
-/* The area in each entry that looks at it; it stays as it is. */
-static void play_minute_area(void)
+/* The area in each entry that looks at it, with a word that shows it; it stays as it is. */
+static void play_bent_area(uint8_t command)
 {
-    static const uint8_t ask[3] = {0x16, 0x0B, 0x17};
+    const uint8_t ask[3] = {0x16, command, 0x17};
     uint8_t kept[SNATCHBLOCK_AREA];
     memcpy(kept, state_area, sizeof kept);
     play_sound(SNATCHBLOCK_AREA);
@@ -918,20 +1031,20 @@ static void play_bent_minutes(void)
         for (uint32_t place = 0; place < SB2_SECONDS; place++)
             put(TOTALS_AT + 4 * place, 4, some_total(1000)); /* so that the count alone can be wrong */
         put(KEPT_AT, 1, counts[i]);
-        play_minute_area();
+        play_bent_area(0x0B);
         other[MINUTE_COUNT + i]++;
     }
     for (unsigned i = 0; i < 5; i++) {
         some_minute();
         put(BEGUN_MS_AT, 2, i < 4 ? 998 + i : 1002 + below(65536 - 1002));
         put(BEGUN_AT, 4, one_in(2) ? 0 : some_total(998)); /* so that the ms alone can be wrong */
-        play_minute_area();
+        play_bent_area(0x0B);
         other[MINUTE_MS + i]++;
     }
     for (unsigned border = 0; border < BORDERS; border++) {
         some_minute();
         put(BEGUN_AT, 4, border_total(border, number_at(BEGUN_MS_AT, 2)));
-        play_minute_area();
+        play_bent_area(0x0B);
         other[MINUTE_BEGUN + border]++;
     }
 }
@@ -948,7 +1061,7 @@ static void play_each_second(void)
                     put(TOTALS_AT + 4 * i, 4, some_total(1000));
                 put(TOTALS_AT + 4 * place, 4, border_total(border, 1000));
                 put(KEPT_AT, 1, count);
-                play_minute_area();
+                play_bent_area(0x0B);
                 other[(over ? MINUTE_OVER : MINUTE_UNDER) + BORDERS * place + border]++;
             }
 }
@@ -1041,6 +1154,151 @@ static void play_minutes(void)
         play_run((enum run)below(RUNS), 2000 + below(3000));
         other[RUN_LONG]++;
     }
+}
+
+/* ---- cycles, and the learned full capacity */
+
+/* A sample of a current that flowed for so many ms, below the limit or not; then at times the words that show it. */
+static void flow(int16_t current, uint32_t ms, bool low)
+{
+    static const uint8_t words[] = {0x0D, 0x0E, 0x0F, 0x10, 0x16, 0x17};
+    uint32_t limit = number_at(LIMIT_AT, 2), voltage = low ? limit - 1 : limit + below(65536 - limit);
+    struct sb2_sample sample = {(uint16_t)voltage, current, some_word(), number_at(SNATCHBLOCK_LATEST + 6, 4) + ms};
+    (void)play_given_sample(sample, SNATCHBLOCK_AREA, SB2_BROADCAST_ROOM);
+    for (size_t i = one_in(3) ? 0 : sizeof words; i < sizeof words; i++) {
+        const uint8_t ask[3] = {0x16, words[i], 0x17};
+        play_message_in(SB2_REPLY_ROOM, ask, 3, true, SNATCHBLOCK_AREA);
+    }
+}
+
+/* Draws so many mA·ms, at most 65,535 mAh and a few, in two samples. */
+static void draw_off(uint64_t amount)
+{
+    if (amount >= 32768)
+        flow(-32768, (uint32_t)(amount / 32768), false);
+    flow(-1, (uint32_t)(amount % 32768), false);
+}
+
+/* How much is missing to an end: all of it, or one mA·ms more or less. */
+static uint64_t about(uint64_t missing)
+{
+    return missing == 0 ? below(2) : missing - 1 + below(3);
+}
+
+static uint16_t some_capacity(void)
+{
+    static const uint16_t edges[] = {1, 2, 100, 32767, 32768, 65534, 65535};
+    return one_in(2) ? edges[below(sizeof edges / sizeof *edges)] : (uint16_t)(1 + below(one_in(2) ? 300 : 65535));
+}
+
+/* A pack that is mostly full, its counts at times near their ends. */
+static void play_full_pack(uint16_t design, uint16_t full)
+{
+    struct sb2_set_up in = some_set_up(true);
+    in.design_capacity = design;
+    in.full_capacity = full;
+    in.remaining_capacity = one_in(8) ? (uint16_t)below(full + 1u) : full;
+    in.cycle_count = one_in(2) ? (uint16_t)(65530 + below(6)) : some_word();
+    in.discharge_limit |= 1;
+    play_given_set_up(in, SNATCHBLOCK_AREA);
+    if (one_in(4))
+        put(TOWARD_AT, 8, (uint64_t)design * SB2_MS_PER_HOUR - 1 - below(4));
+    if (one_in(8)) {
+        put(SNATCHBLOCK_TANK, 8, 0);
+        put(OPEN_AT, 1, 1);
+        put(DRAWN_AT, 8, RUN_MOST - below(4));
+    }
+}
+
+/* What a pack in use meets; the sizes of its draws go from none to more than any pack holds. */
+static void play_use(void)
+{
+    uint64_t one_cycle = (uint64_t)number_at(SNATCHBLOCK_SETTINGS, 2) * SB2_MS_PER_HOUR;
+    int16_t load = one_in(4) ? -1 : (int16_t)-(int32_t)(1 + below(32768));
+    switch (below(12)) {
+    case 0: flow(load, below(2000), one_in(2)); break;
+    case 1: flow(load, below(4000000), one_in(4)); break;
+    case 2: flow(load, some_elapsed(), one_in(2)); break;
+    case 3: draw_off(about(one_cycle - wide_at(TOWARD_AT))); break;
+    case 4: draw_off(about(RUN_MOST - wide_at(DRAWN_AT))); break;
+    case 5: flow((int16_t)(-32768 + (int32_t)below(3)), 0xFFFFFFFFu - below(3), one_in(2)); break;
+    case 6: flow(load, one_in(2) ? 0 : 1 + below(3), true); break;
+    case 7: flow(0, some_elapsed(), one_in(2)); break;
+    case 8: flow((int16_t)(1 + below(3000)), one_in(2) ? 0 : below(2000), one_in(2)); break;
+    case 9: flow(32767, 0xFFFFFFFFu - below(1000), one_in(2)); break; /* full */
+    case 10: flow(load, 0, false); break;
+    default: flow(load, below(100000), true); break;
+    }
+}
+
+/* Down from full in steady steps, past 0 at times, to the limit; what charges between is rare. */
+static void play_long_discharge(void)
+{
+    uint16_t capacity = (uint16_t)(1 + below(400));
+    int16_t load = (int16_t)-(int32_t)(1 + below(20000));
+    play_full_pack(one_in(2) ? capacity : some_capacity(), capacity);
+    flow(32767, 0xFFFFFFFFu, false);
+    for (uint32_t left = 20 + below(200); left > 0; left--)
+        flow(one_in(400) ? 1 : load, 1000, false);
+    flow(load, 1000, true);
+}
+
+/* Learned exactly the design capacity, the most there is, or a mAh of either. */
+static void play_learned(void)
+{
+    uint16_t design = some_capacity();
+    uint64_t aim = (one_in(2) ? design : 1 + below(2)) * (uint64_t)SB2_MS_PER_HOUR;
+    play_full_pack(design, some_capacity());
+    flow(32767, 0xFFFFFFFFu, false);
+    draw_off(about(one_in(4) ? RUN_MOST : aim));
+    flow((int16_t)-(int32_t)below(3), below(2), true);
+}
+
+/* Counts and flags at the borders of what is sound, one field beyond it at a time. */
+static void play_bent_tanks(void)
+{
+    uint64_t one_cycle = (uint64_t)number_at(SNATCHBLOCK_SETTINGS, 2) * SB2_MS_PER_HOUR;
+    const uint64_t towards[4] = {one_cycle - 1, one_cycle, one_cycle + 1, draw() >> below(64)};
+    const uint64_t drawn[2][4] = {{0, 1, RUN_MOST, draw() >> below(64)},
+                                  {RUN_MOST - 1, RUN_MOST, RUN_MOST + 1, draw() >> below(64)}};
+    const uint32_t flags[4] = {0, 1, 2, 3 + below(253)};
+    uint8_t kept[SNATCHBLOCK_AREA];
+    memcpy(kept, state_area, sizeof kept);
+    for (unsigned i = 0; i < 4; i++) {
+        put(TOWARD_AT, 8, towards[i]);
+        play_bent_area(0x17);
+        memcpy(state_area, kept, sizeof kept);
+        other[TANK_TOWARD + i]++;
+        for (unsigned open = 0; open < 2; open++) {
+            put(OPEN_AT, 1, open);
+            put(DRAWN_AT, 8, drawn[open][i]);
+            play_bent_area(0x10);
+            memcpy(state_area, kept, sizeof kept);
+            other[(open ? TANK_OPEN : TANK_CLOSED) + i]++;
+        }
+        put(BIT_4_AT, 1, flags[i]);
+        play_bent_area(0x16);
+        memcpy(state_area, kept, sizeof kept);
+        other[TANK_FLAG + i]++;
+        put(DRAWN_AT, 8, 0);
+        put(OPEN_AT, 1, flags[i]);
+        play_bent_area(0x17);
+        memcpy(state_area, kept, sizeof kept);
+        other[TANK_FLAG + 4 + i]++;
+    }
+}
+
+static void play_learning(void)
+{
+    for (int packs = 0; packs < 6; packs++) {
+        play_full_pack(some_capacity(), some_capacity());
+        for (uint32_t left = 1 + below(16); left > 0; left--)
+            play_use();
+        play_learned();
+    }
+    play_bent_tanks();
+    if (one_in(4))
+        play_long_discharge();
 }
 
 /* ---- check bytes */
@@ -1558,7 +1816,8 @@ static void play_shelf(void)
 
 static void play(void)
 {
-    switch (below(12)) {
+    switch (below(14)) {
+    case 13: case 12: play_learning(); break;
     case 11: play_minutes(); break;
     case 0: case 1: case 2: play_life(); break;
     case 3: case 4: play_areas(); break;
@@ -1680,8 +1939,31 @@ static bool tally(void)
         {"totals so in each place under the count", MINUTE_UNDER, MINUTE_UNDER + 5 * 60 - 1},
         {"and in each place beyond it", MINUTE_OVER, MINUTE_OVER + 5 * 60 - 1},
         {"areas of version 1: sound, sample, transact", AREA_OF_OLD, AREA_OF_OLD + 2},
+        {"areas of version 2: the same", AREA_OF_OLD + 3, AREA_OF_OLD + 5},
         {"charges of 16-bit parts 0, 1, 32,768, 65,535, any", PARTS_OF, PARTS_OF + 24},
         {"carries of no part, the middle, the lowest, both", CARRIES, CARRIES + 3},
+        {"samples of 0, 1, 2 to 999, more cycles", CYCLES_OF, CYCLES_OF + 3},
+        {"cycles come to 65,535, and would pass it", CYCLES_END, CYCLES_END + 1},
+        {"at 65,535: one more and more; less than one", CYCLES_END + 2, CYCLES_END + 3},
+        {"toward the next: 0, one below design, left of more", TOWARD_OF, TOWARD_OF + 2},
+        {"drawn at charge 0, a cycle too", DRAWN_EMPTY, DRAWN_EMPTY + 1},
+        {"set-ups below full, and full", RUN_OPENS, RUN_OPENS + 1},
+        {"a run at full: still, again, with bit 11", RUN_OPENS + 2, RUN_OPENS + 4},
+        {"goes on: drawn, low at rest, in no time, at rest", RUN_STAYS, RUN_STAYS + 3},
+        {"comes to 65,535 mAh, would pass it, stands there", RUN_HELD, RUN_HELD + 2},
+        {"ended by charging in no time, in some", RUN_ENDS, RUN_ENDS + 1},
+        {"none open below full, without bit 11 and with it", RUN_NONE, RUN_NONE + 1},
+        {"closed at the 1st sample, before the 10th, 100th", CLOSED_AFTER, CLOSED_AFTER + 2},
+        {"later: long discharges", CLOSED_AFTER + 3, CLOSED_AFTER + 3},
+        {"closed at charge 0, above it, in no time", CLOSED_WITH, CLOSED_WITH + 2},
+        {"above 0, bit 4 clear before: no alarm, an alarm", CLOSED_WITH + 3, CLOSED_WITH + 4},
+        {"learned 1 of less, 1, more, all 65,535, of more", LEARNED, LEARNED + 4},
+        {"learned below design, design, above it", LEARNED_BY_DESIGN, LEARNED_BY_DESIGN + 2},
+        {"0E: to 100, above, 65,535", ABSOLUTE, ABSOLUTE + 2},
+        {"areas: toward one below design, design, above, any", TANK_TOWARD, TANK_TOWARD + 3},
+        {"a run of 65,535 mAh less 1, all, 1 more, any", TANK_OPEN, TANK_OPEN + 3},
+        {"with none open 0, 1, 65,535 mAh, any", TANK_CLOSED, TANK_CLOSED + 3},
+        {"flags of bit 4 and of the run: 0, 1, 2, others", TANK_FLAG, TANK_FLAG + 7},
     };
     for (size_t i = 0; i < sizeof lines / sizeof *lines; i++)
         all = count_other(lines[i].name, lines[i].first, lines[i].last) && all;
