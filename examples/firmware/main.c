@@ -1,6 +1,7 @@
 /* A board for pack.c, simulated: a day of spraying across the wrap of the millisecond counter, a night on the charger,
- * sixty days in store, and another morning with a counter that starts from 0. It prints the alarms and charger words
- * as they change, and writes a table for plot.py:
+ * sixty days in store, and another day and night with a counter that starts from 0. That day empties the pack from
+ * full, so that it learns what its cells hold. It prints alarms, charger words, cycles and the full capacity as they
+ * change, and writes a table for plot.py:
  *   firmware TABLE.csv */
 #include "board.h"
 
@@ -9,7 +10,8 @@
 #include <string.h>
 
 enum { MINUTE = 60, HOUR = 3600, DAY = 24 * HOUR };
-enum { DAY_FROM = 7 * HOUR, DAY_TO = DAY + 6 * HOUR, STORED = 60 * DAY, MORNING_TO = DAY_TO + STORED + 7 * HOUR };
+enum { DAY_FROM = 7 * HOUR, DAY_TO = DAY + 6 * HOUR, STORED = 60 * DAY, NEXT_TO = DAY_TO + STORED + DAY };
+enum { CELLS_HOLD = 11800 }; /* mAh, of the 12,000 that they were built for */
 enum { BUSY_FROM = 16 * HOUR + 30 * MINUTE, BUSY_TO = BUSY_FROM + 20 * MINUTE }; /* the display wants no alarms */
 enum { POLLS_FROM = DAY + 5 * HOUR }; /* the charger wants no words, it asks itself */
 enum { ALARM_WARNING = 0x16, CHARGING_CURRENT = 0x14, HOST = 0x10, CHARGER = 0x12 };
@@ -30,7 +32,7 @@ static void stamp(void)
 
 /* ---- the cells: a sprayer's pump by day, a charger by night */
 
-static double true_charge = 11500; /* mAh of 12,000: what the cells hold, which the pack can't see */
+static double true_charge = 11500; /* mAh: what is in the cells, which the pack can't see */
 static double current;             /* mA */
 static double warmth = 2931;       /* 0.1 K */
 static uint16_t allowed_current;   /* what the charger was last told */
@@ -59,8 +61,8 @@ static void a_second_passes(void)
     if (current < 0 && true_charge <= 30)
         current = 0; /* the protection has opened */
     true_charge += current / HOUR;
-    if (true_charge > 12000)
-        true_charge = 12000;
+    if (true_charge > CELLS_HOLD)
+        true_charge = CELLS_HOLD; /* what is put in beyond it is lost */
     warmth += (ambient + current * current / 60000 - warmth) / 1800;
 }
 
@@ -133,6 +135,24 @@ static uint16_t host_reads(uint8_t command)
     if (!snatchblock_check_right(snatchblock_exchange_check(exchange, 3 + (size_t)m.replied)))
         die("a reply is damaged");
     return (uint16_t)(m.reply[0] | m.reply[1] << 8);
+}
+
+/* What the pack learned of itself, as the host last read it. */
+static uint16_t full_capacity, cycles;
+
+static void host_asks(void)
+{
+    uint16_t full_before = full_capacity, cycles_before = cycles;
+    full_capacity = host_reads(0x10);
+    cycles = host_reads(0x17);
+    if (full_capacity != full_before) {
+        stamp();
+        printf("full capacity learned: %u mAh\n", full_capacity);
+    }
+    if (cycles != cycles_before) {
+        stamp();
+        printf("cycle %u is complete\n", cycles);
+    }
 }
 
 /* The host's writes come at the worst moment, just when the loop is at the area. */
@@ -224,16 +244,19 @@ static void power_on(uint32_t reading)
     stamp();
     printf("power on, the counter at %u: %s\n", reading,
            kept ? "the kept state is right" : "the kept state is damaged, set up anew");
+    full_capacity = host_reads(0x10);
+    cycles = host_reads(0x17);
     stamp();
-    printf("%u mAh, MaxError %u %%, BatteryMode %04x\n", host_reads(0x0F), host_reads(0x0C), host_reads(0x03));
+    printf("%u of %u mAh, %u cycles, MaxError %u %%, BatteryMode %04x\n", host_reads(0x0F), full_capacity, cycles,
+           host_reads(0x0C), host_reads(0x03));
 }
 
 static void row(FILE *table)
 {
     if (table == NULL)
         return;
-    fprintf(table, "%u,%u,%u,%u,%u,%u,%u\n", second, counter(), host_reads(0x0D), host_reads(0x09), host_reads(0x03),
-            alarms_of_minute, charger_of_minute);
+    fprintf(table, "%u,%u,%u,%u,%u,%u,%u,%u\n", second, counter(), host_reads(0x0D), host_reads(0x09), host_reads(0x03),
+            alarms_of_minute, charger_of_minute, host_reads(0x10));
     alarms_of_minute = charger_of_minute = 0;
 }
 
@@ -253,6 +276,7 @@ static void run_until(uint32_t end, FILE *table)
         second++;
         a_second_passes();
         pack_on_second();
+        host_asks();
         tell(counter() == 0, "the counter wraps");
         tell(second == BUSY_FROM, "the display is busy and asks for no alarms");
         tell(second == BUSY_TO, "the display is free again");
@@ -280,17 +304,19 @@ int main(int count, char **given)
         fprintf(stderr, "usage: firmware TABLE.csv\n");
         return 2;
     }
-    fprintf(table, "second,counter,percent,millivolts,mode,alarms,charger\n");
+    fprintf(table, "second,counter,percent,millivolts,mode,alarms,charger,full\n");
     second = DAY_FROM;
     if (!pack_make(11500, 2))
         die("the set-up is refused");
     power_on(0u - (15 * HOUR - DAY_FROM) * 1000u);
     run_until(DAY_TO, table);
     store();
-    run_until(MORNING_TO, table);
+    run_until(NEXT_TO, table);
     stamp();
-    printf("%u %%, %u mAh; sent %u alarm and %u charger messages, refused %u, %u waited for a sample\n", host_reads(0x0D),
-           host_reads(0x0F), alarms_sent, charger_words_sent, refused, waited);
+    printf("%u %%, %u of %u mAh, %u cycles\n", host_reads(0x0D), host_reads(0x0F), full_capacity, cycles);
+    stamp();
+    printf("sent %u alarm and %u charger messages, refused %u, %u waited for a sample\n", alarms_sent,
+           charger_words_sent, refused, waited);
     pack_keep();
     eeprom[100] ^= 0x10; /* one bit rots */
     power_on(0);

@@ -22,7 +22,7 @@ static bool set_up(uint16_t remaining, uint16_t MaxError)
 {
     const struct snatchblock_setup setup = {
         .DesignCapacity = 12000, /* mAh */
-        .full = 12000,
+        .full = 12000,           /* until a discharge from full to the limit teaches it */
         .remaining = remaining,
         .DesignVoltage = 14400, /* mV */
         .MaxError = MaxError,
@@ -32,7 +32,7 @@ static bool set_up(uint16_t remaining, uint16_t MaxError)
         .ChargingCurrent = 1500,
         .ChargingVoltage = 16800,
         .TemperatureLimit = 3182, /* 45 °C */
-        .DischargeLimit = 12300,
+        .DischargeLimit = 12300, /* empty, under the sprayer's load */
     };
     const struct snatchblock_reading first = board_measure();
     return snatchblock_served(snatchblock_set_up_from(area, sizeof area, &setup, &first));

@@ -1,7 +1,8 @@
 #!/usr/bin/env python3
 """Plots charge, voltage, alarms and charger messages of the firmware's days: plot.py TABLE.csv PLOT.svg
 
-The time axis is cut where the table has no rows for over an hour: the pack was in store."""
+The time axis is cut where the table has no rows for over an hour: the pack was in store. A line marks where the pack
+learned its full capacity, another where the counter wrapped."""
 
 import csv
 import sys
@@ -142,6 +143,17 @@ def wraps(axis):
     return parts
 
 
+def learned(axis):
+    """A line where FullChargeCapacity became another, with what it became."""
+    parts = []
+    for i, rows in enumerate(axis.stretches):
+        for before, row in zip(rows, rows[1:]):
+            if row["full"] != before["full"]:
+                x, words = axis.at(i, row["second"]), f"full capacity learned: {row['full']:,} mAh"
+                parts += [line(x, TOP - 22, x, BOTTOM, CHARGE, "5 4"), text(x, TOP - 26, words, "middle", 12, CHARGE)]
+    return parts
+
+
 def cuts(axis):
     """A grey band where the axis is cut, with the days that it leaves out."""
     parts = []
@@ -167,14 +179,14 @@ def main():
     parts = [
         f'<svg xmlns="http://www.w3.org/2000/svg" viewBox="0 0 {WIDTH} {HEIGHT}" font-family="sans-serif">',
         f'<rect width="{WIDTH}" height="{HEIGHT}" fill="white"/>',
-        text(LEFT, 20, "A day of spraying, a night on the charger, sixty days in store, another morning", size=15),
+        text(LEFT, 20, "A day of spraying and a night on the charger, sixty days in store, and both again", size=15),
     ]
     parts += modes(axis) + hours(axis)
     parts += curve(axis, "percent", "charge, percent", CHARGE, 0, 100, 25)
     parts += curve(axis, "millivolts", "voltage, mV", VOLTAGE, low, high, 1000)
     parts += bars(axis, "alarms", "alarms", "alarms sent to the host", ALARM_ROWS, ALARM)
     parts += bars(axis, "charger", "charger", "sent to the charger", CHARGER_ROWS, CHARGER)
-    parts += wraps(axis) + cuts(axis) + ["</svg>"]
+    parts += wraps(axis) + learned(axis) + cuts(axis) + ["</svg>"]
     with open(sys.argv[2], "w") as plot:
         plot.write("\n".join(parts) + "\n")
 
