@@ -25,6 +25,7 @@ static uint8_t shelf[SB2_SHELF_MOST * SB2_SHELF_ROW];
 static uint8_t key[139];
 static size_t sheet_length, capture_length, key_length, size;
 static uint32_t counter;
+static uint16_t millivolts = 14800;
 static uint8_t message[5] = {0x16};
 static bool reading;
 static size_t message_length;
@@ -81,18 +82,18 @@ static void sound_s(void) { sink = sb2_sound(&state); }
 
 static void sample_p(int16_t current, uint16_t temperature, uint32_t ms)
 {
-    sink = snatchblock_sample(area, sizeof area, 14800, current, temperature, counter += ms, room, 16);
+    sink = snatchblock_sample(area, sizeof area, millivolts, current, temperature, counter += ms, room, 16);
 }
 static void sample_c(int16_t current, uint16_t temperature, uint32_t ms)
 {
     size_t length;
-    struct sb2_sample sample = {14800, current, temperature, counter += ms};
+    struct sb2_sample sample = {millivolts, current, temperature, counter += ms};
     sink = (uint64_t)sb2_area_take_sample(area, sizeof area, &sample, room, 16, &length);
 }
 static void sample_s(int16_t current, uint16_t temperature, uint32_t ms)
 {
     size_t length;
-    struct sb2_sample sample = {14800, current, temperature, counter += ms};
+    struct sb2_sample sample = {millivolts, current, temperature, counter += ms};
     sink = (uint64_t)sb2_take_sample(&state, &sample, room, 16, &length);
 }
 
@@ -115,6 +116,18 @@ static void longest_s(void) { sample_s(-5, 2981, 4294967295u); }
 static void loud_p(void) { sample_p(5, 4000, 30000); }
 static void loud_c(void) { sample_c(5, 4000, 30000); }
 static void loud_s(void) { sample_s(5, 4000, 30000); }
+
+/* Filled, then below the limit: two samples, and full is learned. */
+static void learn_by(void (*sample)(int16_t, uint16_t, uint32_t))
+{
+    sample(32767, 2981, 4294967295u);
+    millivolts = 10999;
+    sample(-5, 2981, 1);
+    millivolts = 14800;
+}
+static void learn_p(void) { learn_by(sample_p); }
+static void learn_c(void) { learn_by(sample_c); }
+static void learn_s(void) { learn_by(sample_s); }
 
 static void write_key_p(void) { sink = snatchblock_write_key(text, size, text + 64, size, 0x526F, 17, room, 139); }
 static void write_key_c(void)
@@ -262,6 +275,7 @@ static const struct {
     {second_p, "snatchblock_sample"},
     {longest_p, "snatchblock_sample"},
     {loud_p, "snatchblock_sample"},
+    {learn_p, "snatchblock_sample"},
     {transact_p, "snatchblock_transact"},
     {pec_p, "snatchblock_pec"},
     {exchange_p, "snatchblock_exchange_check"},
@@ -345,6 +359,7 @@ static void make_entries(void)
     add("sample-second", second_p, second_c, second_s);
     add("sample-longest", longest_p, longest_c, longest_s);
     add("sample-four-messages", loud_p, loud_c, loud_s);
+    add("two-samples-that-learn", learn_p, learn_c, learn_s);
     add("set-up", set_up_p, set_up_c, set_up_s);
     add("sound", sound_p, sound_c, sound_s);
     add_sized("write-key-names", 8, write_key_p, write_key_c);
