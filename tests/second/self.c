@@ -1403,8 +1403,8 @@ struct taken {
     bool full, charged, terminate; /* left full; current above 0; TERMINATE_DISCHARGE */
 };
 
-/* The mA·ms drawn since the last sample at full, that one being at place 0 or later; −1 where no run is open after the
- * newest sample but one. */
+/* What a run has drawn by the newest sample, in mA·ms; −1 where none was open before it, for the pack was never full, or
+ * a sample since then charged or closed it. Place 0 is set-up. */
 static int64_t by_history(const struct taken *history, size_t newest)
 {
     size_t last = newest;
