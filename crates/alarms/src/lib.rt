@@ -31,7 +31,11 @@ pub fn terminate_charge(p: Pack) -> bool
 pub fn terminate_discharge(p: Pack) -> bool
     ensures { λ r. ⌜ r ≡ terminateDischarge p ⌝ }
 {
-    pack::discharge_ends(p.latest.voltage, p.latest.current, p.settings.DischargeLimit)
+    pack::discharge_ends(
+        p.latest.voltage,
+        p.latest.current,
+        p.settings.DischargeLimit,
+    )
 }
 
 // Bit 9.

@@ -78,7 +78,7 @@ latest-back l f =
 
 tank-numbers : (t : Tank) → TankFit t → numbersAt tankWidths (tankBytes t) 0 ≡ tankNumbers t
 tank-numbers t f =
-    numbers-back tankWidths (tankNumbers t) (tankBytes t) 0 
+    numbers-back tankWidths (tankNumbers t) (tankBytes t) 0
     (f .charge, (f .full, (f .CycleCount, (flag-within (t .FullyDischarged), (f .toward, (f .drawn, (flag-within (t .run .opened), tt)))))))
     refl
 

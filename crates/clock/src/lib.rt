@@ -9,7 +9,6 @@ ghost use Rattle.clock.specs.Broadcast.{servedSample, sampleOf, broadcas
 ghost use Rattle.pack.specs.Facts.{SoundParts};
 ghost use Rattle.pack.specs.Sound.{soundOf};
 ghost use Rattle.rooms.specs.Rooms.{placed};
-use pack::Latest;
 use pack::Pack;
 use pack::Sample;
 use pack::State;

@@ -1,8 +1,9 @@
 -- A sample leaves fields that hold what their types let them hold.
 -- Assumes nothing.
-use Prim.Native.Nat.{ℕ, _+_, _<_, min}
-use mathlib.Core.Bool.{Bool, true, false, cond}
+use Prim.Native.Nat.{ℕ, _+_, min}
+use mathlib.Core.Bool.{cond}
 use native.Mathlib.Omega.{arith}
+use Rattle.capacity.proofs.Bounds.{at-most}
 use Rattle.broadcasts.specs.Broadcasts.{alarmGoes, chargerGoes}
 use Rattle.clock.specs.Broadcast.{sampledOf}
 use Rattle.clock.specs.Sample.{elapsedOf, movedOf}
@@ -22,19 +23,15 @@ use Rattle.seconds.proofs.After.{after-fits}
 use Rattle.tank.proofs.Charge as tank
 use Rattle.tank.specs.Tank.{seenOf, closed, tankAfter}
 
-full-small : (b : Bool) (new full : ℕ) → new < 65536 → full < 65536 → cond b new full < 65536
-full-small true new full f g = f
-full-small false new full f g = g
-
 tank-fits : (p : Pack) (x : Latest) (elapsed : ℕ) → SoundParts p → PackFits p → TankFit (tankAfter (p .settings) (p .tank) x elapsed)
 unfolding tankAfter
 tank-fits p x elapsed h f =
     let s = p .settings in
     let t = p .tank in
-    let full = full-small (closed s t x elapsed) (learned (t .run) (seenOf s t x elapsed)) (t .full) (omega arith) (f .tank .full) in
+    let full = at-most (closed s t x elapsed) (learned (t .run) (seenOf s t x elapsed)) (t .full) 65535 (omega arith) (omega (arith, f .tank .full)) in
     record {
       charge = omega (arith, full, tank-facts (tankAfter s t x elapsed) (tank.after-sound s t x elapsed (h .tank)) .charge);
-      full = full;
+      full = omega (arith, full);
       CycleCount = omega arith;
       toward = omega (arith, f .settings .DesignCapacity, toward-fact (s .DesignCapacity) (tankAfter s t x elapsed .toward) (tank.toward-after s t x elapsed (h .toward)));
       drawn = omega (arith, run-facts (tankAfter s t x elapsed .run) (tank.run-after s t x elapsed) .most);

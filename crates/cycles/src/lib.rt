@@ -4,7 +4,6 @@ ghost use mathlib.Core.Bool.{cond};
 ghost use Prim.Native.Nat.{_*_, _<_, _≤_};
 ghost use Rattle.cycles.specs.Cycles.{cyclesAfter, towardAfter};
 ghost use Rattle.capacity.specs.Capacity.{milliampMs};
-ghost use Rattle.words.specs.Words.{below};
 
 // The cycle number, and what is kept toward the next.
 pub struct Cycles {
@@ -12,11 +11,12 @@ pub struct Cycles {
     pub toward: u64,
 }
 
-// What is drawn of what flows.
-pub fn drawn(current: u16, flow: u64) -> u64
-    ensures { λ r. ⌜ r ≡ cond (below current) flow 0 ⌝ }
+// What is drawn of what flows, by whether the current is below 0.
+pub fn drawn(falls: bool, flow: u64) -> u64
+    ensures is { λ r. ⌜ r ≡ cond falls flow 0 ⌝ }
+    ensures most { λ r. ⌜ r ≤ flow ⌝ }
 {
-    if words::falls(current) { flow } else { 0 }
+    if falls { flow } else { 0 }
 }
 
 // A sample may draw many design capacities at once.

@@ -1,1 +1,2 @@
 pub mod Twelve
+pub mod Learned

@@ -1,19 +1,11 @@
 -- What a sample does to a run, by what the run sees of it.
 -- Assumes nothing.
-use mathlib.Core.Bool.{Bool, true, false, not, _&&_, _||_, and-eq-true-iff, true≢false}
-use mathlib.Core.Path.{_≡_, refl}
+use mathlib.Core.Bool.{Bool, true, false, not, _&&_, _||_, and-eq-true-iff, and-false}
+use mathlib.Core.Path.{_≡_, ap, sym, _∙_}
 use borrow.Author.Tests.{not-true}
 use Rattle.learning.specs.Learning.{closes, countsOn, drawnIn, runAfter}
 use Rattle.learning.specs.declared.Seen.{Seen}
 use Rattle.pack.specs.declared.Run.{Run}
-
-and-not : (a : Bool) → a && false ≡ false
-and-not true = refl
-and-not false = refl
-
-or-right : (a b : Bool) → a || b ≡ true → a ≡ false → b ≡ true
-or-right true b h e = absurd (true≢false e)
-or-right false b h e = h
 
 module _ (u : Run) (v : Seen) where
   counts-is : countsOn u v ≡ true → (u .opened ≡ true) × (v .filled ≡ false) × (v .rises ≡ false) × (v .ends ≡ false)
@@ -31,7 +23,7 @@ module _ (u : Run) (v : Seen) where
 
   -- at full a run opens at 0
   pub opens : v .filled ≡ true → (runAfter u v .opened ≡ true) × (runAfter u v .drawn ≡ 0)
-  opens f = (simp f, simp (f, and-not (u .opened)))
+  opens f = (simp f, simp (f, and-false (u .opened)))
 
   -- a quiet sample counts on
   pub counts : u .opened ≡ true → v .filled ≡ false → v .rises ≡ false → v .ends ≡ false
@@ -42,7 +34,7 @@ module _ (u : Run) (v : Seen) where
   pub counted : runAfter u v .opened ≡ true → v .filled ≡ false
       → (u .opened ≡ true) × (v .rises ≡ false) × (v .ends ≡ false) × (runAfter u v .drawn ≡ drawnIn u v)
   counted h f =
-      let on : countsOn u v ≡ true = or-right (v .filled) (countsOn u v) h f in
+      let on : countsOn u v ≡ true = sym (ap (λ (b : Bool). b || countsOn u v) f) ∙ h in
       let is = counts-is on in
       (is .0, is .2, is .3, simp on)
 
@@ -52,9 +44,9 @@ module _ (u : Run) (v : Seen) where
 
   -- current above 0 below full ends the run
   pub ended : v .rises ≡ true → v .ends ≡ false → v .filled ≡ false → (runAfter u v .opened ≡ false) × (closes u v ≡ false)
-  ended a s f = (simp (f, a, and-not (u .opened && true)), simp (s, and-not (u .opened && not (v .filled))))
+  ended a s f = (simp (f, a, and-false (u .opened && true)), simp (s, and-false (u .opened && not (v .filled))))
 
   -- TERMINATE_DISCHARGE below full closes an open run, and none is open then
   pub shuts : u .opened ≡ true → v .filled ≡ false → v .ends ≡ true
       → (closes u v ≡ true) × (runAfter u v .opened ≡ false) × (runAfter u v .drawn ≡ 0)
-  shuts o f s = (simp (o, f, s), simp (o, f, s, and-not (not (v .rises))), simp (o, f, s, and-not (not (v .rises))))
+  shuts o f s = (simp (o, f, s), simp (o, f, s, and-false (not (v .rises))), simp (o, f, s, and-false (not (v .rises))))

@@ -3,8 +3,8 @@ ghost use mathlib.Core.Path.{_≡_};
 ghost use Prim.Native.Nat.{_*_, _≤_};
 ghost use Rattle.learning.specs.Learning.{closes, countsOn, drawnIn, runAfter, learned};
 ghost use Rattle.capacity.specs.Capacity.{milliampMs};
-use pack::Run;
 use pack::RUN_MOST;
+use pack::Run;
 
 // What a run sees of a sample: whether it leaves the pack full, whether its current is above 0, whether it has
 // TERMINATE_DISCHARGE set, and the charge that it draws.

@@ -1,8 +1,8 @@
 -- What each part's test says, fact by fact, and back; a sound state's parts; the error code may change below 8.
 -- Assumes nothing.
 use Prim.Native.Nat.{ℕ, _<_, _≤_}
-use mathlib.Core.Bool.{Bool, true, false, not, _||_, and-eq-true-iff, true≢false, false≢true}
-use mathlib.Core.Path.{_≡_, refl, sym}
+use mathlib.Core.Bool.{Bool, true, false, not, _||_, and-eq-true-iff, false≢true}
+use mathlib.Core.Path.{_≡_, refl, sym, ap, _∙_}
 use native.Mathlib.Omega.{arith}
 use lib.Dec.{eqb}
 use borrow.Author.Tests.{eq-eqb, ne-eqb, eqb-true, eqb-false, le-leb, leb-true, lt-ltb, ltb-true, not-true}
@@ -49,10 +49,6 @@ pub toward-sound : (design toward : ℕ) → toward < milliampMs design → towa
 unfolding towardSound
 toward-sound design toward h = lt-ltb _ _ h
 
-or-there : (a b : Bool) → a || b ≡ true → a ≡ false → b ≡ true
-or-there true b h e = absurd (true≢false e)
-or-there false b h e = h
-
 or-back : (a b : Bool) → (a ≡ false → b ≡ true) → a || b ≡ true
 or-back true b f = refl
 or-back false b f = f refl
@@ -60,7 +56,7 @@ or-back false b f = f refl
 pub run-facts : (u : Run) → runSound u ≡ true → RunFacts u
 unfolding runSound
 run-facts u h =
-    let b = and-eq-true-iff _ _ .0 h in record { most = leb-true _ _ (b .0); none = λ e. eqb-true _ _ (or-there _ _ (b .1) e) }
+    let b = and-eq-true-iff _ _ .0 h in record { most = leb-true _ _ (b .0); none = λ e. eqb-true _ _ (sym (ap (λ (o : Bool). o || eqb (u .drawn) 0) e) ∙ b .1) }
 
 pub run-sound : (u : Run) → RunFacts u → runSound u ≡ true
 unfolding runSound

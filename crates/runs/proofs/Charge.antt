@@ -1,11 +1,10 @@
 -- Charge over histories: current × elapsed added, held between 0 and full, from set-up or a close on.
 -- Assumes nothing.
-use Prim.Native.Nat.{ℕ, _≤_}
+use Prim.Native.Nat.{ℕ}
 use mathlib.Core.Bool.{true, false}
-use mathlib.Core.List.{List, [], _∷_, _++_}
+use mathlib.Core.List.{List, _∷_, _++_}
 use mathlib.Core.Path.{_≡_, refl, sym, ap, _∙_, subst}
 use lib.IntN.{ℤ, pos}
-use Rattle.capacity.specs.Capacity.{milliampMs}
 use Rattle.clock_laws.proofs.Charge.{charge-true}
 use Rattle.clock_laws.specs.Steps.{gap}
 use Rattle.gauge_laws.proofs.Words.{remaining-word-most}

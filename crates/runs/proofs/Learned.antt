@@ -8,11 +8,10 @@ use mathlib.Core.Path.{_≡_, refl, ap, _∙_, sym, subst⁻¹}
 use native.Mathlib.Omega.{arith}
 use borrow.Author.Tests.{eq-eqb, eqb-true, not-true, not-false}
 use lib.Dec.{eqb}
-use Rattle.alarms.specs.Alarms.{chargeFull, terminateDischarge, chargerAlarm, anyAlarm}
+use Rattle.alarms.specs.Alarms.{chargeFull, terminateDischarge, chargerAlarm}
 use Rattle.capacity.specs.Capacity.{milliampMs}
 use Rattle.clock.specs.Sample.{movedOf}
 use Rattle.clock_laws.specs.Steps.{gap}
-use Rattle.cycles.specs.Cycles.{drawnBy}
 use Rattle.gauge_laws.proofs.Bits.{bits-stand}
 use Rattle.gauge_laws.specs.Promises.{digit}
 use Rattle.learning.proofs.Steps as law
@@ -26,10 +25,10 @@ use Rattle.pack.specs.declared.Tank.{Tank}
 use Rattle.runs.proofs.Cycles.{drawnWord, drawnWords, words-append, words-true, none-drawn}
 use Rattle.runs.proofs.Measures.{set-up-pack}
 use Rattle.runs.proofs.Tank.{tank-stays, seenAt, tank-sampled, full-is, rises-is, ends-is, run-append}
-use Rattle.runs.specs.Closes.{drawnOver, closedBy, Quiet, NotFilled, SinceFull, Closing, Closed}
-use Rattle.runs.specs.Events.{Event, sample, call, step, run, Throughout, accepted, acceptedOf}
+use Rattle.runs.specs.Closes.{drawnOver, closedBy, Quiet, NotFilled, SinceFull, Closing}
+use Rattle.runs.specs.Events.{Event, sample, call, step, run, Throughout, accepted}
 use Rattle.runs.specs.Learned.{RunOpen, RunDrawn, ClosesExactly, CloseLearns, OnlyCloseLearns, CloseIsShown, EndedUnused}
-use Rattle.runs.specs.Since.{fromSetUp, Signed16}
+use Rattle.runs.specs.Since.{fromSetUp}
 use Rattle.start.specs.SetUp.{packOf, setUpOf}
 use Rattle.start.specs.declared.Setup.{Setup}
 use Rattle.tank.proofs.Steps.{at-close, no-close, rises-on}
@@ -111,8 +110,7 @@ shut-event : (s : State) (e : Event) (b : Bool) → accepted s e ≡ b → isOpe
     → (isOpen (step s e) ≡ false) × (step s e .pack .tank .full ≡ s .pack .tank .full)
 shut-event s (sample x n) true a o f =
     let p = s .pack in
-    let k = law.shut (p .tank .run) (seenAt s x) o (sym (full-is s x n a) ∙ f a) in
-    (
+    let k = law.shut (p .tank .run) (seenAt s x) o (sym (full-is s x n a) ∙ f a) in (
       ap (λ (u : Run). u .opened) (run-sampled s x n a) ∙ k .0,
       ap (λ (t : Tank). t .full) (tank-sampled s x n a) ∙ no-close (p .settings) (p .tank) (latestOf x) (gap p x) (k .1) .0,
     )
@@ -199,8 +197,8 @@ pub closes-exactly : ClosesExactly
 closes-exactly u first es x n a accept =
     let s = run (fromSetUp u first) es in (
       λ c.
-      let k = law.closes-is (s .pack .tank .run) (seenAt s x) c in
-      record { after = opened u first a es (k .0); is-accepted = accept; not-full = full-is s x n accept ∙ k .1; ends = ends-is s x n accept ∙ k .2 },
+          let k = law.closes-is (s .pack .tank .run) (seenAt s x) c in
+          record { after = opened u first a es (k .0); is-accepted = accept; not-full = full-is s x n accept ∙ k .1; ends = ends-is s x n accept ∙ k .2 },
       λ k. law.shuts (s .pack .tank .run) (seenAt s x) (counted u first a es (k .after) .0) (sym (full-is s x n accept) ∙ k .not-full) (sym (ends-is s x n accept) ∙ k .ends) .0,
     )
 

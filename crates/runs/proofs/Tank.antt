@@ -1,7 +1,7 @@
 -- What an event does to the tank, and to what BatteryStatus says of it.
 -- Assumes nothing.
 use Prim.Native.Nat.{ℕ}
-use mathlib.Core.Bool.{Bool, true, false, not}
+use mathlib.Core.Bool.{true, false, not}
 use mathlib.Core.List.{List, [], _∷_, _++_}
 use mathlib.Core.Path.{_≡_, refl, ap, _∙_}
 use Rattle.alarms.specs.Alarms.{chargeFull, terminateDischarge, discharging}

@@ -1,10 +1,12 @@
 -- Charge stays between 0 and full, the learned one too, and the two counts within their bounds.
 -- Assumes nothing.
 use Prim.Native.Nat.{ℕ, _+_, _-_, _*_, _<_, _≤_, min}
-use mathlib.Core.Bool.{Bool, true, false, cond, _||_, true≢false}
-use mathlib.Core.Path.{_≡_, refl}
+use mathlib.Core.Bool.{Bool, true, false, cond}
+use mathlib.Core.Path.{_≡_, ap}
+use mathlib.Mathlib.Data.Bool.Basic.{or-eq-false-eq-eq-false-and-eq-false}
 use native.Mathlib.Nat.{mod-lt}
 use native.Mathlib.Omega.{arith}
+use Rattle.capacity.proofs.Bounds.{either, at-most}
 use Rattle.capacity.specs.Capacity.{milliampMs}
 use Rattle.cycles.specs.Cycles.{drawnBy}
 use Rattle.learning.specs.Learning.{countsOn, drawnIn, learned}
@@ -17,15 +19,6 @@ use Rattle.tank.specs.Charge.{chargeAfter}
 use Rattle.tank.specs.Tank.{seenOf, closed, chargeMoved, tankAfter}
 use Rattle.words.specs.Words.{below, sizeOf}
 
--- what holds of both of two numbers holds of the chosen
-pub most : (b : Bool) (x y limit : ℕ) → x ≤ limit → y ≤ limit → cond b x y ≤ limit
-most true x y limit f g = f
-most false x y limit f g = g
-
-pub some : (b : Bool) (x y : ℕ) → 0 < x → 0 < y → 0 < cond b x y
-some true x y f g = f
-some false x y f g = g
-
 pub held : (b : Bool) (charge top flow : ℕ) → charge ≤ top → cond b (charge - flow) (min top (charge + flow)) ≤ top
 held true charge top flow h = omega arith
 held false charge top flow h = omega arith
@@ -37,11 +30,6 @@ close-held : (b : Bool) (charge full new : ℕ) → charge ≤ milliampMs full �
 close-held true charge full new h = omega arith
 close-held false charge full new h = h
 
-none-open : (a b : Bool) (n : ℕ) → a || b ≡ false → cond b n 0 ≡ 0
-none-open true b n h = absurd (true≢false h)
-none-open false true n h = absurd (true≢false h)
-none-open false false n h = refl
-
 module _ (s : Settings) (t : Tank) (x : Latest) (elapsed : ℕ) where
   -- a sample leaves a sound tank sound
   pub after-sound : tankSound t ≡ true → tankSound (tankAfter s t x elapsed) ≡ true
@@ -51,7 +39,7 @@ module _ (s : Settings) (t : Tank) (x : Latest) (elapsed : ℕ) where
       let v = seenOf s t x elapsed in
       tank-sound _
       (record {
-        full = some (closed s t x elapsed) (learned (t .run) v) (t .full) (omega arith) (f .full);
+        full = either (λ n. 0 < n) (closed s t x elapsed) (learned (t .run) v) (t .full) (omega arith) (f .full);
         charge = close-held (closed s t x elapsed) (chargeMoved t x elapsed) (t .full) (learned (t .run) v) (charge-held (t .charge) (t .full) (x .current) elapsed (f .charge));
       })
 
@@ -69,6 +57,6 @@ module _ (s : Settings) (t : Tank) (x : Latest) (elapsed : ℕ) where
       let v = seenOf s t x elapsed in
       run-sound _
       (record {
-        most = most (countsOn (t .run) v) (drawnIn (t .run) v) 0 (milliampMs 65535) (omega arith) (omega arith);
-        none = λ e. none-open (v .filled) (countsOn (t .run) v) (drawnIn (t .run) v) e;
+        most = at-most (countsOn (t .run) v) (drawnIn (t .run) v) 0 (milliampMs 65535) (omega arith) (omega arith);
+        none = λ e. ap (λ b. cond b (drawnIn (t .run) v) 0) (or-eq-false-eq-eq-false-and-eq-false (v .filled) (countsOn (t .run) v) .0 e .1);
       })

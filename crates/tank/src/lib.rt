@@ -2,12 +2,11 @@
 ghost use mathlib.Core.Path.{_≡_};
 ghost use mathlib.Core.Bool.{true, cond};
 ghost use Prim.Native.Nat.{_+_, _-_, _*_, _<_, _≤_, min};
-ghost use Rattle.tank.specs.Charge.{chargeAfter};
 ghost use Rattle.tank.specs.Tank.{tankAfter};
 ghost use Rattle.learning.specs.Learning.{learned};
 ghost use Rattle.pack.specs.Sound.{tankSound, towardSound, runSound};
 ghost use Rattle.capacity.specs.Capacity.{milliampMs};
-ghost use Rattle.words.specs.Words.{below, sizeOf};
+ghost use Rattle.words.specs.Words.{sizeOf};
 use learning::Seen;
 use pack::Latest;
 use pack::Run;
@@ -45,11 +44,11 @@ fn more(charge: u64, flow: u64, top: u64) -> u64
     }
 }
 
-fn moved(charge: u64, top: u64, current: u16, flow: u64) -> u64
+fn moved(charge: u64, top: u64, falls: bool, flow: u64) -> u64
     requires { ⌜ charge ≤ top ⌝ }
-    ensures { λ r. ⌜ r ≡ cond (below current) (charge - flow) (min top (charge + flow)) ⌝ }
+    ensures { λ r. ⌜ r ≡ cond falls (charge - flow) (min top (charge + flow)) ⌝ }
 {
-    if words::falls(current) {
+    if falls {
         return less(charge, flow);
     }
     more(charge, flow, top)
@@ -79,9 +78,10 @@ pub fn sampled(s: Settings, t: Tank, x: Latest, elapsed: u32) -> Tank
     ensures { λ r. ⌜ r ≡ tankAfter s t x elapsed ⌝ }
 {
     let flow = flowed(x.current, elapsed);
+    let falls = words::falls(x.current);
     let top = capacity::milliamp_ms(t.full);
-    let charge = moved(t.charge, top, x.current, flow);
-    let drawn = cycles::drawn(x.current, flow);
+    let charge = moved(t.charge, top, falls, flow);
+    let drawn = cycles::drawn(falls, flow);
     let cycles = cycles::counted(s.DesignCapacity, t.CycleCount, t.toward, drawn);
     let seen = Seen {
         filled: charge == top,
