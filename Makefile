@@ -8,7 +8,7 @@ help:
 	@echo 'make hut               five minutes of a pack in a hut, and what it broadcasts'
 	@echo "make shelf TABLE=file  Monday's figures of a table of packs; with no file, of examples/shelf/monday.txt"
 	@echo 'make pec BYTES="16 02" the check byte of a message; with no bytes, the worked examples'
-	@echo 'make firmware          a day of a C firmware over the proved library, and its plot'
+	@echo 'make firmware          two days of a C firmware over the proved library, and their plot'
 	@echo 'make test              the whole gate: every proof, every must-fail edit, every test'
 	@echo 'make bench             instruction counts beside the same code in C (not part of the gate)'
 	@echo 'make install           library, header and pkg-config file under PREFIX=/usr/local'

@@ -20,8 +20,8 @@
  * One call at a time on one area. If transactions come from an interrupt, mask it around every call, and every copy of
  * the area, that the loop makes; the bus hardware holds the clock meanwhile. Calls on other areas may run beside it.
  *
- * Stack, in bytes, the most that was measured of each (`make bench`, x86-64; nothing proves it): transact 3,856;
- * sample 2,192; read_key 1,752; unescape 1,656; sound 1,072; exchange_check 312; pec 280; write_sheet 128; set_up 112;
+ * Stack, in bytes, the most that was measured of each (`make bench`, x86-64; nothing proves it): transact 3,984;
+ * sample 2,288; read_key 1,752; unescape 1,656; sound 784; exchange_check 312; pec 280; write_sheet 128; set_up 112;
  * block 104; shelf_report 80; write_key 56; bit_comparison, is_sheet, open_capture, step_capture 16.
  */
 #ifndef SNATCHBLOCK_H
@@ -248,8 +248,8 @@ static inline uint32_t snatchblock_set_up_from(uint8_t *area, size_t area_length
  *
  * Elapsed is the counter's reading minus the latest one, wrapping. It is the true time only if samples come under
  * 2^32 ms (49.7 days) apart and the counter ran on between them. After storage, after a restart of the counter, in
- * doubt: bring a sample with current 0 first. It is proved to change no charge, whatever its counter says, and the next
- * sample counts from its reading. The hold, the two timers and the minute move by what the counter shows. Any other
+ * doubt: bring a sample with current 0 first. It is proved to change no charge and to end no run, whatever its counter says,
+ * and the next sample counts from its reading. The hold, the two timers and the minute move by what the counter shows. Any other
  * current there adds current x a wrong elapsed, up to 1,193 hours of it: the pack reads empty or full, counts cycles
  * that weren't, and may learn a wrong full capacity.
  */

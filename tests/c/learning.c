@@ -342,6 +342,37 @@ static void soundness(void)
     CHECK(word(0x0D), 100);
 }
 
+static void capacities_at(int line, uint16_t remaining, uint16_t full, uint16_t cycles)
+{
+    check_at(line, "RemainingCapacity", word(0x0F), remaining);
+    check_at(line, "FullChargeCapacity", word(0x10), full);
+    check_at(line, "CycleCount", word(0x17), cycles);
+}
+#define CAPACITIES(remaining, full, cycles) capacities_at(__LINE__, remaining, full, cycles)
+
+/* The worked example that is proved of the definitions: 4,000 mAh by design, worn to 3,750; -1,000 mA for 3 h 30 min,
+ * then for 15 min below the limit, then for 15 min more. A minute of charging in place of the close: nothing is learned. */
+static void worked_example(void)
+{
+    uint8_t low_area[sizeof area];
+    counter = 0;
+    CHECK(snatchblock_set_up(area, sizeof area, 4000, 4000, 4000, 14800, 0, 5, 0, 0, 0, 0, 4000, LIMIT, 16000, 0, 2981,
+                             counter), 0);
+    CAPACITIES(4000, 4000, 5);
+    flow_at(12500, -1000, 12600000);
+    CAPACITIES(500, 4000, 5);
+    memcpy(low_area, area, sizeof area);
+    flow_at(11900, -1000, 900000);
+    CAPACITIES(0, 3750, 5);
+    flow_at(11000, -1000, 900000);
+    CAPACITIES(0, 3750, 6);
+    memcpy(area, low_area, sizeof area);
+    counter = 12600000;
+    flow_at(15000, 1000, 60000); /* 16 2/3 mAh */
+    flow_at(11900, -1000, 900000);
+    CAPACITIES(266, 4000, 5);
+}
+
 /* Unused bytes of the counts are 0, and a refused sample moves nothing. */
 static void places(void)
 {
@@ -369,5 +400,6 @@ int main(void)
     above_design();
     soundness();
     places();
+    worked_example();
     return checked("learning");
 }

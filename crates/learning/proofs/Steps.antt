@@ -1,10 +1,13 @@
 -- What a sample does to a run, by what the run sees of it.
 -- Assumes nothing.
+use Prim.Native.Nat.{ℕ}
 use mathlib.Core.Bool.{Bool, true, false, not, _&&_, _||_, and-eq-true-iff, and-false}
-use mathlib.Core.Path.{_≡_, ap, sym, _∙_}
+use mathlib.Core.Path.{_≡_, refl, ap, sym, _∙_}
+use native.Mathlib.Omega.{arith}
 use borrow.Author.Tests.{not-true}
 use Rattle.learning.specs.Learning.{closes, countsOn, drawnIn, runAfter}
 use Rattle.learning.specs.declared.Seen.{Seen}
+use Rattle.pack.specs.Facts.{RunFacts}
 use Rattle.pack.specs.declared.Run.{Run}
 
 module _ (u : Run) (v : Seen) where
@@ -50,3 +53,14 @@ module _ (u : Run) (v : Seen) where
   pub shuts : u .opened ≡ true → v .filled ≡ false → v .ends ≡ true
       → (closes u v ≡ true) × (runAfter u v .opened ≡ false) × (runAfter u v .drawn ≡ 0)
   shuts o f s = (simp (o, f, s), simp (o, f, s, and-false (not (v .rises))), simp (o, f, s, and-false (not (v .rises))))
+
+  -- a quiet sample that draws nothing leaves a sound run as it is
+  pub stays : v .filled ≡ false → v .rises ≡ false → v .ends ≡ false → v .drawn ≡ 0 → RunFacts u → runAfter u v ≡ u
+  stays f r s d k = go (u .opened) refl
+    where
+      both : {o o′ : Bool} {n n′ : ℕ} → o ≡ o′ → n ≡ n′ → _≡_ {A = Run} (record { opened = o; drawn = n }) (record { opened = o′; drawn = n′ })
+      both e h = rw (e, h)
+
+      go : (o : Bool) → u .opened ≡ o → runAfter u v ≡ u
+      go true o = both (simp (f, o, r, s)) (simp (f, o, r, s) (omega (arith, d, k .most)))
+      go false o = both (simp (f, o)) (simp (f, o) (sym (k .none o)))

@@ -8,11 +8,12 @@ use lib.Dec.{eqb, ltb}
 use lib.IntN.{pos}
 use mir.Syntax.{w16}
 use mir.Val.{ofZ}
+use Rattle.alarms.specs.Alarms.{chargeFull}
 use Rattle.clock.specs.Broadcast.{sampledOf, sampleOf, servedSample, refusedSample}
 use Rattle.clock.specs.Sample.{movedOf}
 use Rattle.clock.specs.declared.Sampled.{Sampled}
 use Rattle.clock_laws.specs.Steps.{gap}
-use Rattle.pack.proofs.Soundness.{toward-fact, parts, pack-of-sound}
+use Rattle.pack.proofs.Soundness.{toward-fact, run-facts, parts, pack-of-sound}
 use Rattle.pack.specs.Kept.{latestOf}
 use Rattle.pack.specs.Sound.{soundOf}
 use Rattle.pack.specs.declared.Pack.{Pack}
@@ -24,7 +25,7 @@ use Rattle.runs.proofs.Charge.{counter-of, charge-from}
 use Rattle.runs.proofs.Measures.{time-true}
 use Rattle.runs.specs.Events.{sample, step, answerTo}
 use Rattle.runs.specs.Rest.{NoCurrentNoCharge, RestKeepsCharge, ChargeAfterRest, TimeAfterRest}
-use Rattle.tank.proofs.Steps.{at-rest}
+use Rattle.tank.proofs.Steps.{at-rest, run-at-rest}
 
 -- the word of no current
 no-word : (x : Sample) → x .current ≡ pos 0 → latestOf x .current ≡ 0
@@ -35,11 +36,13 @@ rested : (s : State) (x : Sample) → x .current ≡ pos 0 → soundOf s ≡ tru
     → let t = sampledOf (s .pack) x .tank in
     (t .charge ≡ s .pack .tank .charge) × (t .full ≡ s .pack .tank .full) × (t .toward ≡ s .pack .tank .toward)
     × (s .pack .tank .CycleCount ≤ 65535 → t .CycleCount ≡ s .pack .tank .CycleCount)
+    × (chargeFull (s .pack) ≡ false → t .run ≡ s .pack .tank .run)
 unfolding sampledOf movedOf
 rested s x c h =
     let p = s .pack in
-    at-rest (p .settings) (p .tank) (latestOf x) (gap p x) (no-word x c) (tank-of s h)
-    (toward-fact (p .settings .DesignCapacity) (p .tank .toward) (parts p (pack-of-sound s h) .toward))
+    let f = parts p (pack-of-sound s h) in
+    let k = at-rest (p .settings) (p .tank) (latestOf x) (gap p x) (no-word x c) (tank-of s h) (toward-fact (p .settings .DesignCapacity) (p .tank .toward) (f .toward)) in
+    (k .0, k .1, k .2, k .3, run-at-rest (p .settings) (p .tank) (latestOf x) (gap p x) (no-word x c) (tank-of s h) (run-facts (p .tank .run) (f .run)))
 
 -- refused for the state or for the room it leaves all as it was
 by-answer : (s : State) (x : Sample) (b t : Bool) → (b ≡ true → sampledOf (s .pack) x .tank .charge ≡ s .pack .tank .charge)
@@ -72,6 +75,7 @@ rest-keeps-charge s x n r =
       full = ap (λ (u : Tank). u .full) t ∙ k .1;
       cycles = λ l. ap (λ (u : Tank). u .CycleCount) t ∙ k .3 l;
       toward = ap (λ (u : Tank). u .toward) t ∙ k .2;
+      run = λ n. ap (λ (u : Tank). u .run) t ∙ k .4 n;
       counter = counter-of s x n a;
       sound = step-sound s (sample x n) (r .sound);
     }

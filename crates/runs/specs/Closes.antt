@@ -67,7 +67,7 @@ pub record Closing (s : State) (es : List Event) (x : Sample) (n : ℕ) : Type 0
   pub ends : terminateDischarge (step (run s es) (sample x n) .pack) ≡ true
 
 -- what a close leaves: full is the whole mAh drawn, at least 1 and at most 65,535; charge is 0, bit 4 set, no run open (RULES 7.13)
-pub record Closed (drawn : ℕ) (t : Tank) : Type 0 where
+pub record AfterClose (drawn : ℕ) (t : Tank) : Type 0 where
   pub full : t .full ≡ max 1 (min 65535 (drawn / 3600000))
   pub charge : t .charge ≡ 0
   pub FullyDischarged : t .FullyDischarged ≡ true

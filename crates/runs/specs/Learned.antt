@@ -14,7 +14,7 @@ use Rattle.pack.specs.Sound.{soundOf}
 use Rattle.pack.specs.declared.Sample.{Sample}
 use Rattle.pack.specs.declared.State.{State}
 use Rattle.pack.specs.declared.Tank.{Tank}
-use Rattle.runs.specs.Closes.{drawnOver, closedBy, NotFilled, SinceFull, Closing, Closed}
+use Rattle.runs.specs.Closes.{drawnOver, closedBy, NotFilled, SinceFull, Closing, AfterClose}
 use Rattle.runs.specs.Events.{Event, sample, step, run, Throughout, accepted, acceptedOf}
 use Rattle.runs.specs.Since.{fromSetUp, Signed16}
 use Rattle.start.specs.SetUp.{setUpOf}
@@ -73,7 +73,7 @@ abbrev pub CloseLearns : Type 0
 CloseLearns =
     (u : Setup) (first : Sample) (es : List Event) (x : Sample) (n : ℕ) → setUpOf u first .answer ≡ 0 → (k : Closing (fromSetUp u first) es x n)
     → Signed16 (acceptedOf (run (fromSetUp u first) (k .after .before)) (k .after .since ++ sample x n ∷ []))
-    → Closed (drawnOver (run (fromSetUp u first) (k .after .before)) (k .after .since ++ sample x n ∷ [])) (step (run (fromSetUp u first) es) (sample x n) .pack .tank)
+    → AfterClose (drawnOver (run (fromSetUp u first) (k .after .before)) (k .after .since ++ sample x n ∷ [])) (step (run (fromSetUp u first) es) (sample x n) .pack .tank)
 
 -- and at no other event does it change
 abbrev pub OnlyCloseLearns : Type 0

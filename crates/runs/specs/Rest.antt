@@ -2,10 +2,11 @@
 -- and the next one adds its current over a wrong time. One sample whose current is 0 ends that: it adds nothing, and time is counted from its reading on.
 -- Assumes nothing.
 use Prim.Native.Nat.{ℕ, _-_, _%_, _^_, _≤_}
-use mathlib.Core.Bool.{true}
+use mathlib.Core.Bool.{true, false}
 use mathlib.Core.List.{List, _∷_}
 use mathlib.Core.Path.{_≡_}
 use lib.IntN.{pos}
+use Rattle.alarms.specs.Alarms.{chargeFull}
 use Rattle.pack.specs.Sound.{soundOf}
 use Rattle.pack.specs.declared.Sample.{Sample}
 use Rattle.pack.specs.declared.State.{State}
@@ -24,13 +25,14 @@ pub record Rest (s : State) (x : Sample) (n : ℕ) : Type 0 where
   pub no-current : x .current ≡ pos 0
   pub room : 16 ≤ n
 
--- it is accepted, what the tank holds stays, its reading is the latest, and the state is sound
+-- it is accepted, what the tank holds stays, below full the run too, its reading is the latest, and the state is sound
 pub record Rested (s : State) (x : Sample) (n : ℕ) : Type 0 where
   pub answer : answerTo s (sample x n) ≡ 0
   pub charge : step s (sample x n) .pack .tank .charge ≡ s .pack .tank .charge
   pub full : step s (sample x n) .pack .tank .full ≡ s .pack .tank .full
   pub cycles : s .pack .tank .CycleCount ≤ 65535 → step s (sample x n) .pack .tank .CycleCount ≡ s .pack .tank .CycleCount
   pub toward : step s (sample x n) .pack .tank .toward ≡ s .pack .tank .toward
+  pub run : chargeFull (s .pack) ≡ false → step s (sample x n) .pack .tank .run ≡ s .pack .tank .run
   pub counter : step s (sample x n) .pack .latest .counter ≡ x .counter
   pub sound : soundOf (step s (sample x n)) ≡ true
 

@@ -9,9 +9,10 @@ use borrow.Author.Tests.{ne-eqb, ltb-true, lt-leb}
 use lib.Dec.{eqb, ltb}
 use Rattle.capacity.specs.Capacity.{milliampMs}
 use Rattle.cycles.specs.Cycles.{drawnBy}
+use Rattle.learning.proofs.Steps as law
 use Rattle.learning.specs.Learning.{learned}
 use Rattle.pack.specs.Discharge.{dischargeEnds}
-use Rattle.pack.specs.Facts.{TankFacts}
+use Rattle.pack.specs.Facts.{TankFacts, RunFacts}
 use Rattle.pack.specs.declared.Latest.{Latest}
 use Rattle.pack.specs.declared.Settings.{Settings}
 use Rattle.pack.specs.declared.Tank.{Tank}
@@ -72,3 +73,11 @@ module _ (s : Settings) (t : Tank) (x : Latest) (elapsed : ℕ) where
         simp (c, sum) (mod-eq-of-lt h),
         λ l. omega (arith, none, l),
       )
+
+  -- nor does it end or close a run below full
+  pub run-at-rest : x .current ≡ 0 → TankFacts t → RunFacts (t .run) → eqb (t .charge) (milliampMs (t .full)) ≡ false → tankAfter s t x elapsed .run ≡ t .run
+  unfolding tankAfter seenOf
+  run-at-rest c f g n =
+      let charge = ap (λ (w : ℕ). chargeAfter (t .charge) (t .full) w elapsed) c ∙ nothing-flows (t .charge) (t .full) elapsed (f .charge) in
+      law.stays (t .run) (seenOf s t x elapsed) (ap (λ (n : ℕ). eqb n (milliampMs (t .full))) charge ∙ n) (ap above c)
+      (ap (λ (w : ℕ). dischargeEnds (x .voltage) w (s .DischargeLimit)) c) (ap (λ (w : ℕ). drawnBy w elapsed) c) g
