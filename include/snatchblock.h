@@ -246,12 +246,12 @@ static inline uint32_t snatchblock_set_up_from(uint8_t *area, size_t area_length
  * charger), command, low, high; no PEC. The driver sends them in their order. The specification allows none in the first
  * 10 s after the bus came on: those the driver drops. A lost one isn't made up; the next comes 10 or 30 s later.
  *
- * Elapsed is the counter's reading minus the latest one, wrapping. It is the true time only if samples come under
- * 2^32 ms (49.7 days) apart and the counter ran on between them. After storage, after a restart of the counter, in
- * doubt: bring a sample with current 0 first. It is proved to change no charge and to end no run, whatever its counter says,
- * and the next sample counts from its reading. The hold, the two timers and the minute move by what the counter shows. Any other
- * current there adds current x a wrong elapsed, up to 1,193 hours of it: the pack reads empty or full, counts cycles
- * that weren't, and may learn a wrong full capacity.
+ * Elapsed is the counter's reading minus the latest one, wrapping. It is the true time only if samples come under 2^32
+ * ms (49.7 days) apart and the counter ran on between them. After storage, after a restart of the counter, in doubt:
+ * bring a sample with current 0 first. It is proved to change no charge and to end no run, whatever its counter says,
+ * and the next sample counts from its reading. The hold, the two timers and the minute move by what the counter shows.
+ * Any other current there adds current x a wrong elapsed, up to 1,193 hours of it: the pack reads empty or full,
+ * counts cycles that weren't, and may learn a wrong full capacity.
  */
 uint32_t snatchblock_sample(uint8_t *area, size_t area_length, uint16_t voltage, int16_t current,
                             uint16_t temperature, uint32_t counter, uint8_t *room, size_t room_length);
