@@ -1,6 +1,6 @@
 -- The cycle number and what is kept toward the next, from all charge drawn.
 -- Assumes nothing.
-use Prim.Native.Nat.{ℕ, _+_, _*_, _/_, _%_, _≤_, _<_, min}
+use Prim.Native.Nat.{ℕ, _+_, _*_, _/_, _%_, _<_, min}
 use mathlib.Core.Bool.{Bool, true, false, cond, _&&_, true≢false}
 use mathlib.Core.List.{List, [], _∷_, _++_}
 use mathlib.Core.Path.{_≡_, refl, ap, ap₂, _∙_, sym, subst, subst⁻¹}
@@ -79,11 +79,11 @@ remainder d m rest size =
     ap (λ (n : ℕ). n % size) e ∙ sym (mod-add-mod (d + m) size rest)
 
 -- nothing drawn
-none-cycled : (design : ℕ) (t : Tank) → t .toward < milliampMs design → t .CycleCount ≤ 65535 → Cycled design t 0 t
-none-cycled design t h c =
+none-cycled : (design : ℕ) (t : Tank) → t .toward < milliampMs design → Cycled design t 0 t
+none-cycled design t h =
     let sum : t .toward + 0 ≡ t .toward = omega arith in
     let none : (t .toward + 0) / milliampMs design ≡ 0 = ap (λ (n : ℕ). n / milliampMs design) sum ∙ div-eq-of-lt h in
-    record { cycles = omega (arith, none, c); toward = sym (ap (λ (n : ℕ). n % milliampMs design) sum ∙ mod-eq-of-lt h) }
+    record { cycles = λ c. omega (arith, none, c); toward = sym (ap (λ (n : ℕ). n % milliampMs design) sum ∙ mod-eq-of-lt h) }
 
 -- a sample, and then what later ones draw
 one-cycled : (s : Settings) (t : Tank) (x : Latest) (elapsed rest : ℕ) (after : Tank) → t .toward < milliampMs (s .DesignCapacity)
@@ -93,7 +93,7 @@ one-cycled s t x elapsed rest after h k =
     let size = milliampMs (s .DesignCapacity) in
     let drawn = drawnBy (x .current) elapsed in
     record {
-      cycles = omega (arith, k .cycles, quotient (t .toward) drawn rest size (omega (arith, h)));
+      cycles = λ c. omega (arith, k .cycles (omega arith), quotient (t .toward) drawn rest size (omega (arith, h)));
       toward = k .toward ∙ sym (remainder (t .toward) drawn rest size);
     }
 
@@ -113,43 +113,34 @@ then-cycled s e rest after false a h k =
     let k2 = subst (λ (t : Tank). Cycled (s .pack .settings .DesignCapacity) t rest after) (tank-stays s e a) k1 in
     subst⁻¹ (λ (d : ℕ). Cycled (s .pack .settings .DesignCapacity) (s .pack .tank) d after) (ap (λ (d : ℕ). d + rest) (none-drawn s e a) ∙ zero-add rest) k2
 
-count-low : (s : State) (e : Event) (b : Bool) → accepted s e ≡ b → s .pack .tank .CycleCount ≤ 65535 → step s e .pack .tank .CycleCount ≤ 65535
-unfolding tankAfter
-count-low s (sample x n) true a c = subst⁻¹ (λ (t : Tank). t .CycleCount ≤ 65535) (tank-sampled s x n a) (omega arith)
-count-low s (call c) true a l = absurd (true≢false (sym a))
-count-low s e false a c = subst⁻¹ (λ (t : Tank). t .CycleCount ≤ 65535) (tank-stays s e a) c
-
 toward-low : (s : State) → soundOf s ≡ true → s .pack .tank .toward < milliampMs (s .pack .settings .DesignCapacity)
 toward-low s h = toward-fact (s .pack .settings .DesignCapacity) (s .pack .tank .toward) (parts (s .pack) (pack-of-sound s h) .toward)
 
-over : (s : State) (es : List Event) → soundOf s ≡ true → s .pack .tank .CycleCount ≤ 65535
+over : (s : State) (es : List Event) → soundOf s ≡ true
     → Cycled (s .pack .settings .DesignCapacity) (s .pack .tank) (drawnWords s es) (run s es .pack .tank)
-over s [] h c = none-cycled (s .pack .settings .DesignCapacity) (s .pack .tank) (toward-low s h) c
-over s (e ∷ es) h c =
-    then-cycled s e (drawnWords (step s e) es) (run s (e ∷ es) .pack .tank) (accepted s e) refl (toward-low s h)
-    (over (step s e) es (step-sound s e h) (count-low s e (accepted s e) refl c))
+over s [] h = none-cycled (s .pack .settings .DesignCapacity) (s .pack .tank) (toward-low s h)
+over s (e ∷ es) h =
+    then-cycled s e (drawnWords (step s e) es) (run s (e ∷ es) .pack .tank) (accepted s e) refl (toward-low s h) (over (step s e) es (step-sound s e h))
 
 pub cycles-from : CyclesFrom
-cycles-from s es h c f =
-    subst⁻¹ (λ (d : ℕ). Cycled (s .pack .settings .DesignCapacity) (s .pack .tank) d (run s es .pack .tank)) (words-true s es f) (over s es h c)
+cycles-from s es h f =
+    subst⁻¹ (λ (d : ℕ). Cycled (s .pack .settings .DesignCapacity) (s .pack .tank) d (run s es .pack .tank)) (words-true s es f) (over s es h)
 
 -- ---- since set-up
 
-since : (u : Setup) (first : Sample) (es : List Event) → setUpOf u first .answer ≡ 0 → u .CycleCount < 65536 → Signed16 (acceptedOf (fromSetUp u first) es)
+since : (u : Setup) (first : Sample) (es : List Event) → setUpOf u first .answer ≡ 0 → Signed16 (acceptedOf (fromSetUp u first) es)
     → Cycled (u .DesignCapacity) (tankOf u) (drawnOver (fromSetUp u first) es) (run (fromSetUp u first) es .pack .tank)
 unfolding packOf
-since u first es a l f =
+since u first es a f =
     let s = fromSetUp u first in
-    let p = set-up-pack u first a in
-    let low : s .pack .tank .CycleCount ≤ 65535 = subst⁻¹ (λ (q : Pack). q .tank .CycleCount ≤ 65535) p (omega (arith, l)) in
-    subst (λ (q : Pack). Cycled (q .settings .DesignCapacity) (q .tank) (drawnOver s es) (run s es .pack .tank)) p
-    (cycles-from s es (set-up-sound u first a) low f)
+    subst (λ (q : Pack). Cycled (q .settings .DesignCapacity) (q .tank) (drawnOver s es) (run s es .pack .tank)) (set-up-pack u first a)
+    (cycles-from s es (set-up-sound u first a) f)
 
 pub cycles-since-set-up : CyclesSinceSetUp
 unfolding wordOf
 cycles-since-set-up u first es a l f =
-    since u first es a l f .cycles ∙ ap (λ (d : ℕ). min 65535 (u .CycleCount + d / milliampMs (u .DesignCapacity))) (zero-add (drawnOver (fromSetUp u first) es))
+    since u first es a f .cycles (omega (arith, l)) ∙ ap (λ (d : ℕ). min 65535 (u .CycleCount + d / milliampMs (u .DesignCapacity))) (zero-add (drawnOver (fromSetUp u first) es))
 
 pub toward-since-set-up : TowardSinceSetUp
-toward-since-set-up u first es a l f =
-    since u first es a l f .toward ∙ ap (λ (d : ℕ). d % milliampMs (u .DesignCapacity)) (zero-add (drawnOver (fromSetUp u first) es))
+toward-since-set-up u first es a f =
+    since u first es a f .toward ∙ ap (λ (d : ℕ). d % milliampMs (u .DesignCapacity)) (zero-add (drawnOver (fromSetUp u first) es))

@@ -263,7 +263,7 @@ close-is-shown s x c =
 
 pub ended-unused : EndedUnused
 unfolding seenOf
-ended-unused s x n es h a r (f, fs) =
+ended-unused s x n es a r (f, fs) =
     let p = s .pack in
     let v = seenAt s x in
     let rises = not-false (v .rises) (sym (rises-is s x n a) ∙ r) in

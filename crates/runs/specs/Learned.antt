@@ -25,13 +25,13 @@ use Rattle.status.specs.Status.{alarmWord}
 
 -- the cycle number grows by the design capacities drawn and stops at 65,535, and what is kept toward the next is the remainder
 pub record Cycled (design : ℕ) (before : Tank) (drawn : ℕ) (after : Tank) : Type 0 where
-  pub cycles : after .CycleCount ≡ min 65535 (before .CycleCount + (before .toward + drawn) / milliampMs design)
+  pub cycles : before .CycleCount ≤ 65535 → after .CycleCount ≡ min 65535 (before .CycleCount + (before .toward + drawn) / milliampMs design)
   pub toward : after .toward ≡ (before .toward + drawn) % milliampMs design
 
 -- so over any history from any sound state
 abbrev pub CyclesFrom : Type 0
 CyclesFrom =
-    (s : State) (es : List Event) → soundOf s ≡ true → s .pack .tank .CycleCount ≤ 65535 → Signed16 (acceptedOf s es)
+    (s : State) (es : List Event) → soundOf s ≡ true → Signed16 (acceptedOf s es)
     → Cycled (s .pack .settings .DesignCapacity) (s .pack .tank) (drawnOver s es) (run s es .pack .tank)
 
 -- register 17 is the smaller of 65,535 and set-up's number plus floor(all charge drawn since set-up ÷ design capacity)
@@ -43,7 +43,7 @@ CyclesSinceSetUp =
 -- and what is kept toward the next is the remainder
 abbrev pub TowardSinceSetUp : Type 0
 TowardSinceSetUp =
-    (u : Setup) (first : Sample) (es : List Event) → setUpOf u first .answer ≡ 0 → u .CycleCount < 65536 → Signed16 (acceptedOf (fromSetUp u first) es)
+    (u : Setup) (first : Sample) (es : List Event) → setUpOf u first .answer ≡ 0 → Signed16 (acceptedOf (fromSetUp u first) es)
     → run (fromSetUp u first) es .pack .tank .toward ≡ drawnOver (fromSetUp u first) es % milliampMs (u .DesignCapacity)
 
 -- ---- runs
@@ -88,9 +88,9 @@ CloseIsShown =
     (s : State) (x : Sample) → closedBy s x ≡ true
     → (bitOf 4 (alarmWord (movedOf (s .pack) x)) ≡ 1) × (bitOf 11 (alarmWord (movedOf (s .pack) x)) ≡ 1) × (anyAlarm (movedOf (s .pack) x) ≡ true)
 
--- a run that saw current above 0 below full changes nothing: from any sound state, full stays till a sample leaves the pack full
+-- a run that saw current above 0 below full changes nothing: from any state, full stays till a sample leaves the pack full
 abbrev pub EndedUnused : Type 0
 EndedUnused =
-    (s : State) (x : Sample) (n : ℕ) (es : List Event) → soundOf s ≡ true → accepted s (sample x n) ≡ true
+    (s : State) (x : Sample) (n : ℕ) (es : List Event) → accepted s (sample x n) ≡ true
     → discharging (step s (sample x n) .pack) ≡ false → Throughout NotFilled s (sample x n ∷ es)
     → run s (sample x n ∷ es) .pack .tank .full ≡ s .pack .tank .full
