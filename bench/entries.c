@@ -82,19 +82,20 @@ static void sound_s(void) { sink = sb2_sound(&state); }
 
 static void sample_p(int16_t current, uint16_t temperature, uint32_t ms)
 {
-    sink = snatchblock_sample(area, sizeof area, millivolts, current, temperature, counter += ms, room, 16);
+    sink = snatchblock_sample(area, sizeof area, millivolts, current, temperature, counter += ms, room,
+                              SB2_BROADCAST_ROOM);
 }
 static void sample_c(int16_t current, uint16_t temperature, uint32_t ms)
 {
     size_t length;
     struct sb2_sample sample = {millivolts, current, temperature, counter += ms};
-    sink = (uint64_t)sb2_area_take_sample(area, sizeof area, &sample, room, 16, &length);
+    sink = (uint64_t)sb2_area_take_sample(area, sizeof area, &sample, room, SB2_BROADCAST_ROOM, &length);
 }
 static void sample_s(int16_t current, uint16_t temperature, uint32_t ms)
 {
     size_t length;
     struct sb2_sample sample = {millivolts, current, temperature, counter += ms};
-    sink = (uint64_t)sb2_take_sample(&state, &sample, room, 16, &length);
+    sink = (uint64_t)sb2_take_sample(&state, &sample, room, SB2_BROADCAST_ROOM, &length);
 }
 
 /* 1 ms on: no second is complete, no message is due. */
@@ -112,7 +113,7 @@ static void longest_p(void) { sample_p(-5, 2981, 4294967295u); }
 static void longest_c(void) { sample_c(-5, 2981, 4294967295u); }
 static void longest_s(void) { sample_s(-5, 2981, 4294967295u); }
 
-/* 30,000 ms on, hot and charging: four messages each time. */
+/* 30,000 ms on, hot and charging: four messages each time, in plain or, in one case, with their PECs. */
 static void loud_p(void) { sample_p(5, 4000, 30000); }
 static void loud_c(void) { sample_c(5, 4000, 30000); }
 static void loud_s(void) { sample_s(5, 4000, 30000); }
@@ -257,10 +258,11 @@ static void shelf_c(void) { sink = one_pass(shelf, size * SB2_SHELF_ROW, room, S
 
 static void set_up_p(void)
 {
-    sink = snatchblock_set_up(area, sizeof area, 4000, 4000, 2000, 14800, 2, 7, 0x526F, 17, 2000, 16800, 3182, 11000, 14800,
-                              -1500, 2981, 0);
+    sink = snatchblock_set_up(area, sizeof area, 4000, 4000, 2000, 14800, 2, 7, 0x526F, 17, 2000, 16800, 3182, 11000,
+                              true, 14800, -1500, 2981, 0);
 }
-static const struct sb2_set_up figures = {4000, 4000, 2000, 14800, 2, 7, 0x526F, 17, 2000, 16800, 3182, 11000, {14800, -1500, 2981, 0}};
+static const struct sb2_set_up figures = {4000, 4000, 2000, 14800, 2, 7, 0x526F, 17, 2000, 16800, 3182, 11000, true,
+                                          {14800, -1500, 2981, 0}};
 static void set_up_c(void) { sink = (uint64_t)sb2_area_set_up(area, sizeof area, &figures); }
 static void set_up_s(void) { sink = (uint64_t)sb2_set_up(&state, &figures); }
 
@@ -308,7 +310,7 @@ struct entry {
     char name[32];
     void (*call[3])(void); /* p, c, s */
     size_t size;
-    bool reading, power;
+    bool reading, power, with_pec;
     uint8_t command;
 };
 static struct entry entries[112];
@@ -359,6 +361,7 @@ static void make_entries(void)
     add("sample-second", second_p, second_c, second_s);
     add("sample-longest", longest_p, longest_c, longest_s);
     add("sample-four-messages", loud_p, loud_c, loud_s);
+    add("sample-four-messages-pec", loud_p, loud_c, loud_s)->with_pec = true;
     add("two-samples-that-learn", learn_p, learn_c, learn_s);
     add("set-up", set_up_p, set_up_c, set_up_s);
     add("sound", sound_p, sound_c, sound_s);
@@ -416,8 +419,8 @@ static void make_start(void)
     size_t length;
     for (uint32_t i = 1; i <= 60; i++) {
         struct sb2_sample sample = {14800, -1500, 2981, 1000 * i};
-        (void)sb2_area_take_sample(start_area, sizeof start_area, &sample, room, 16, &length);
-        (void)sb2_take_sample(&start_state, &sample, room, 16, &length);
+        (void)sb2_area_take_sample(start_area, sizeof start_area, &sample, room, SB2_BROADCAST_ROOM, &length);
+        (void)sb2_take_sample(&start_state, &sample, room, SB2_BROADCAST_ROOM, &length);
     }
 }
 
@@ -428,6 +431,8 @@ static void prepare(const struct entry *e)
     state = start_state;
     if (e->power)
         write_both(area, &state, 0x03, 0x8000);
+    if (e->with_pec)
+        area[SNATCHBLOCK_PLAIN] = state.settings.plain = false;
     counter = 60000;
     size = e->size;
     if (e->call[0] == walk_p)

@@ -44,7 +44,7 @@ extern "C" {
 enum snatchblock_answer {
     SNATCHBLOCK_SERVED = 0,
     SNATCHBLOCK_NOT_SOUND = 1,         /* no area, or its state isn't sound */
-    SNATCHBLOCK_SMALL_ROOM = 2,        /* a room for a reply under 34 bytes, for broadcasts or the shelf under 16 */
+    SNATCHBLOCK_SMALL_ROOM = 2,        /* a room for a reply under 34 bytes, broadcasts 20 (plain: 16), the shelf 16 */
     SNATCHBLOCK_OTHER_ADDRESS = 3,     /* no bytes, or the first isn't 16 */
     SNATCHBLOCK_WRONG_FORM = 4,        /* wrong size or form (6, BadSize); a shelf's table that isn't whole rows */
     SNATCHBLOCK_WRONG_PEC = 5,         /* a write of five bytes, its PEC wrong (7, UnknownError) */
@@ -112,24 +112,31 @@ static inline size_t snatchblock_step_next(uint64_t result) { return (size_t)(re
  * The version of the area. Every version has its own length, so that an area of another one is answered 1.
  * Bytes with a flag above 1 or with a state that isn't sound are answered 1 too, and left as they are.
  *
- * What moved: version 3 has 17 bytes more at the end of TANK. Version 2, of 312 bytes, has 60 seconds in RECENT, where
- * version 1, of 186 bytes, had the currents of 60 samples. A sound area of either goes on as a sound one of version 3:
- * its first 53 bytes, 17 zeros, then of version 2 the rest, of version 1 the next 12 bytes and zeros to the end. So
- * nothing is drawn toward the next cycle and no run is open; coming from version 1, no second is complete.
+ * What moved: version 4 has one byte more at the end of SETTINGS, the flag plain. Version 3, of 329 bytes, has 17 more
+ * at the end of TANK than version 2, of 312; that has 60 seconds in RECENT, where version 1, of 186, had the currents
+ * of 60 samples. A sound area of each goes on as a sound one of version 4: its first 19 bytes; one byte, 01, so that
+ * the pack goes on broadcasting in plain as it did, or 00 if all its hearers understand PEC; then
+ *
+ *   of version 3   the rest
+ *   of version 2   the next 34 bytes, 17 zeros, the rest
+ *   of version 1   the next 34 bytes, 17 zeros, the next 12 bytes, zeros to the end
+ *
+ * So coming from version 1 or 2 nothing is drawn toward the next cycle and no run is open; coming from version 1, no
+ * second is complete.
  *
  * What is stored when, for an area in EEPROM: answers 1 to 3 don't touch it; 4 to 9 and every read store its first byte
  * alone, a served write that byte, HOST and TIMERS; a sample and a set-up store all of it.
  *
- * Stored bytes rot, and snatchblock_sound is no test for that. Keep the area's PEC beside it (snatchblock_pec of its 329
+ * Stored bytes rot, and snatchblock_sound is no test for that. Keep the area's PEC beside it (snatchblock_pec of its 330
  * bytes). Take the area back only if its PEC matches and it is sound: bytes that are all 0 have the PEC 0, and aren't
- * sound. Else set the pack up anew. Proved of these 330 bytes: the PEC shows every odd number of altered bits, all
+ * sound. Else set the pack up anew. Proved of these 331 bytes: the PEC shows every odd number of altered bits, all
  * damage within eight neighbouring bits, and two altered bits unless they stand a multiple of 127 apart. Two bits that
  * do are not seen. Of damage in other even numbers of bits about one in 128 is not seen (measured by tests/c/storage.c).
  * A store that the power cuts short is such damage: where that can happen keep two copies, and store them in turn.
  *
  * After storage, and whenever the counter started anew: the first sample has current 0 (see snatchblock_sample).
  */
-#define SNATCHBLOCK_VERSION 3
+#define SNATCHBLOCK_VERSION 4
 
 /*
  * The bytes of an area: the error code, then each part at its place. A flag is one byte, 1 or 0.
@@ -138,32 +145,37 @@ static inline size_t snatchblock_step_next(uint64_t result) { return (size_t)(re
  *                0    0      1  error code
  *   SETTINGS     1    0  9 x 2  DesignCapacity, DesignVoltage, MaxError, ManufactureDate, SerialNumber, ChargingCurrent,
  *                               ChargingVoltage, TemperatureLimit, DischargeLimit
- *   HOST        19    0  4 x 2  ManufacturerAccess, RemainingCapacityAlarm, RemainingTimeAlarm, AtRate
+ *                    18      1  flag: plain
+ *   HOST        20    0  4 x 2  ManufacturerAccess, RemainingCapacityAlarm, RemainingTimeAlarm, AtRate
  *                     8  3 x 1  flags: AlarmMode, ChargerMode, CapacityMode
- *   LATEST      30    0  3 x 2  the latest sample's voltage, current, temperature
+ *   LATEST      31    0  3 x 2  the latest sample's voltage, current, temperature
  *                     6      4  its counter
- *   TANK        40    0      8  charge
+ *   TANK        41    0      8  charge
  *                     8  2 x 2  full capacity, CycleCount
  *                    12      1  flag: FullyDischarged
  *                    13      8  drawn toward the next cycle, mA·ms, less than one DesignCapacity
  *                    21      8  drawn in the run, mA·ms, at most 65,535 mAh; 0 where none is open
  *                    29      1  flag: a run is open
- *   TIMERS      70    0  3 x 4  hold, alarm timer, charger timer, in ms
- *   RECENT      82    0 60 x 4  the last complete seconds since set-up, newest first: current x time, mA·ms, signed
+ *   TIMERS      71    0  3 x 4  hold, alarm timer, charger timer, in ms
+ *   RECENT      83    0 60 x 4  the last complete seconds since set-up, newest first: current x time, mA·ms, signed
  *                   240      1  how many of them are kept, 0 to 60; what stands beyond them isn't looked at
  *                   241      2  the begun second's ms, under 1,000
  *                   243      4  its current x time
  */
 #define SNATCHBLOCK_SETTINGS 1
-#define SNATCHBLOCK_HOST (SNATCHBLOCK_SETTINGS + 18)
+#define SNATCHBLOCK_PLAIN (SNATCHBLOCK_SETTINGS + 18)
+#define SNATCHBLOCK_HOST (SNATCHBLOCK_SETTINGS + 19)
 #define SNATCHBLOCK_LATEST (SNATCHBLOCK_HOST + 11)
 #define SNATCHBLOCK_TANK (SNATCHBLOCK_LATEST + 10)
 #define SNATCHBLOCK_TIMERS (SNATCHBLOCK_TANK + 30)
 #define SNATCHBLOCK_RECENT (SNATCHBLOCK_TIMERS + 12)
 #define SNATCHBLOCK_AREA (SNATCHBLOCK_RECENT + 247)
 
-/* Room that is always enough: for a sample's broadcasts, a reply, a key, a sheet, a shelf's figures. Less is refused. */
-#define SNATCHBLOCK_BROADCAST_ROOM 16
+/*
+ * Room that is always enough: for a sample's broadcasts, a reply, a key, a sheet, a shelf's figures. Less is refused;
+ * broadcasts in plain are served from 16 bytes on.
+ */
+#define SNATCHBLOCK_BROADCAST_ROOM 20
 #define SNATCHBLOCK_REPLY_ROOM 34
 #define SNATCHBLOCK_KEY_ROOM 139
 #define SNATCHBLOCK_SHEET_ROOM 145
@@ -176,7 +188,7 @@ bool snatchblock_sound(const uint8_t *area, size_t area_length);
 
 /*
  * What the pack is. The charge starts at remaining; full and CycleCount start here too, and samples move all three. The
- * rest stays as it is set up. A field that isn't given is 0.
+ * rest stays as it is set up. A field that isn't given is 0: so broadcasts have their PEC unless plain is asked for.
  */
 struct snatchblock_setup {
     uint16_t DesignCapacity;   /* mAh */
@@ -191,6 +203,8 @@ struct snatchblock_setup {
     uint16_t ChargingVoltage;  /* mV, likewise */
     uint16_t TemperatureLimit; /* 0.1 K; above it OVER_TEMP is set */
     uint16_t DischargeLimit;   /* mV; below it, while discharging, TERMINATE_DISCHARGE is set */
+    bool plain;                /* broadcasts of four bytes without PEC, for hearers that don't understand it; else each
+                                  ends in its PEC */
 };
 
 /* What the board measured, and when. */
@@ -209,7 +223,7 @@ struct snatchblock_reading {
 uint32_t snatchblock_set_up(uint8_t *area, size_t area_length, uint16_t DesignCapacity, uint16_t full,
                             uint16_t remaining, uint16_t DesignVoltage, uint16_t MaxError, uint16_t CycleCount,
                             uint16_t ManufactureDate, uint16_t SerialNumber, uint16_t ChargingCurrent,
-                            uint16_t ChargingVoltage, uint16_t TemperatureLimit, uint16_t DischargeLimit,
+                            uint16_t ChargingVoltage, uint16_t TemperatureLimit, uint16_t DischargeLimit, bool plain,
                             uint16_t voltage, int16_t current, uint16_t temperature, uint32_t counter);
 
 static inline uint32_t snatchblock_set_up_from(uint8_t *area, size_t area_length, const struct snatchblock_setup *setup,
@@ -218,16 +232,16 @@ static inline uint32_t snatchblock_set_up_from(uint8_t *area, size_t area_length
     return snatchblock_set_up(area, area_length, setup->DesignCapacity, setup->full, setup->remaining,
                               setup->DesignVoltage, setup->MaxError, setup->CycleCount, setup->ManufactureDate,
                               setup->SerialNumber, setup->ChargingCurrent, setup->ChargingVoltage,
-                              setup->TemperatureLimit, setup->DischargeLimit, first->voltage, first->current,
-                              first->temperature, first->counter);
+                              setup->TemperatureLimit, setup->DischargeLimit, setup->plain, first->voltage,
+                              first->current, first->temperature, first->counter);
 }
 
 /* ---- samples */
 
 /*
  * A sample: charge grows by current x elapsed, and falls where the current is below 0. Bring one at least each second:
- * an alarm then goes every 11 s at the latest. Answers 0, 1, 2; length_of has the broadcasts' bytes, 0 to 16. 1 and 2
- * leave area and room as they were.
+ * an alarm then goes every 11 s at the latest. Answers 0; 1; 2: a room under 20 bytes, in plain under 16. length_of has
+ * the broadcasts' bytes, 0 to 20, in plain to 16. 1 and 2 leave area and room as they were.
  *
  * Its current counts for the time since the sample before, and set-up's for none. AverageCurrent is the mean over the
  * last 60 whole seconds since set-up, or as many as there are, cut toward zero; the begun second isn't in it, and before
@@ -242,8 +256,10 @@ static inline uint32_t snatchblock_set_up_from(uint8_t *area, size_t area_length
  * full, in whole mAh, 1 to 65,535, be it above DesignCapacity; and the charge is 0, in this sample's alarm already. One
  * dip below DischargeLimit closes a run too: set that limit where the pack is empty under its usual load.
  *
- * A broadcast is a message of four bytes that the pack itself sends as the bus's master: address (10 the host, 12 the
- * charger), command, low, high; no PEC. The driver sends them in their order. The specification allows none in the first
+ * A broadcast is a message that the pack itself sends as the bus's master: address (10 the host, 12 the charger),
+ * command, low, high, and the PEC of these four. Host and charger check its five bytes as those of any message, and
+ * drop a wrong one. In plain it is the four bytes alone. In the room they stand one behind the other, each of
+ * snatchblock_message_length bytes; the driver sends them in their order. The specification allows none in the first
  * 10 s after the bus came on: those the driver drops. A lost one isn't made up; the next comes 10 or 30 s later.
  *
  * Elapsed is the counter's reading minus the latest one, wrapping. It is the true time only if samples come under 2^32
@@ -262,6 +278,12 @@ static inline uint32_t snatchblock_sample_from(uint8_t *area, size_t area_length
 {
     return snatchblock_sample(area, area_length, reading->voltage, reading->current, reading->temperature,
                               reading->counter, room, room_length);
+}
+
+/* The bytes of each broadcast message of this pack: 4 in plain, else 5. */
+static inline size_t snatchblock_message_length(const uint8_t area[SNATCHBLOCK_AREA])
+{
+    return area[SNATCHBLOCK_PLAIN] == 1 ? 4 : 5;
 }
 
 /* ---- transactions */
@@ -291,7 +313,10 @@ uint32_t snatchblock_transact(uint8_t *area, size_t area_length, const uint8_t *
 /* The PEC of bytes: CRC-8, x^8 + x^2 + x + 1, start 0, high bit first. A message's is over its address bytes too. */
 uint8_t snatchblock_pec(const uint8_t *bytes, size_t length);
 
-/* Whether an exchange, what a host sent and then what it heard, ends in its PEC: check_right. Answers 0, 15. */
+/*
+ * Whether an exchange, what a host sent and then what it heard, ends in its PEC: check_right; so of a broadcast's five
+ * bytes. Answers 0, 15.
+ */
 uint32_t snatchblock_exchange_check(const uint8_t *bytes, size_t length);
 
 /* In how many bits two messages differ: comparison_bits. Answers 0, 15. */

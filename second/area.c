@@ -34,8 +34,8 @@ static int32_t signed_number(const uint8_t **at)
 /* As many bytes as an area has, each flag 0 or 1. */
 static bool is_area(struct sb2_bytes area)
 {
-    static const size_t flags[] = {SB2_HOST_AT + 8, SB2_HOST_AT + 9, SB2_HOST_AT + 10, SB2_TANK_AT + 12,
-                                   SB2_TANK_AT + 29};
+    static const size_t flags[] = {SB2_SETTINGS_AT + 18, SB2_HOST_AT + 8, SB2_HOST_AT + 9, SB2_HOST_AT + 10,
+                                   SB2_TANK_AT + 12, SB2_TANK_AT + 29};
     if (area.length != SB2_AREA)
         return false;
     for (size_t i = 0; i < sizeof flags / sizeof *flags; i++)
@@ -55,6 +55,7 @@ static void load_settings(const uint8_t *at, struct sb2_settings *s)
     s->charging_voltage = word(&at);
     s->temperature_limit = word(&at);
     s->discharge_limit = word(&at);
+    s->plain = number(&at, 1) == 1;
 }
 
 static void load_host(const uint8_t *at, struct sb2_host *h)
@@ -145,6 +146,7 @@ static void store_settings(uint8_t *at, const struct sb2_settings *s)
     put_word(&at, s->charging_voltage);
     put_word(&at, s->temperature_limit);
     put_word(&at, s->discharge_limit);
+    put(&at, 1, s->plain);
 }
 
 static void store_host(uint8_t *at, const struct sb2_host *h)

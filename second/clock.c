@@ -10,14 +10,19 @@ uint32_t sb2_elapsed(uint32_t before, uint32_t now)
     return now - before;
 }
 
-/* Puts one message of four bytes, its word low byte first (rule: Clock and broadcasts). */
-static size_t put_message(uint8_t *room, size_t place, uint8_t address, uint8_t command, uint16_t word)
+/* Puts one message, its word low byte first; behind its four bytes, unless in plain, goes their PEC (rules: Clock and
+ * broadcasts; R-5). */
+static size_t put_message(bool plain, uint8_t *room, size_t place, uint8_t address, uint8_t command, uint16_t word)
 {
+    struct sb2_bytes message = {room + place, 4};
     room[place] = address;
     room[place + 1] = command;
     room[place + 2] = (uint8_t)(word & 0xFF);
     room[place + 3] = (uint8_t)(word >> 8);
-    return place + 4;
+    if (plain)
+        return place + 4;
+    room[place + 4] = sb2_pec(message);
+    return place + 5;
 }
 
 /* The begun second is complete: it takes the place of the oldest of 60, and the next begins (rule: R-2). */
@@ -137,18 +142,20 @@ static void count_timers(struct sb2_state *s, uint32_t elapsed)
 static size_t send_alarms(struct sb2_state *s, uint8_t *room, size_t place)
 {
     uint16_t word = sb2_status(s) | ERROR_BITS;
+    bool plain = s->settings.plain;
     if ((word & ALARM_BITS) == 0 || s->host.alarm_mode || s->timers.alarm < SB2_ALARM_MS)
         return place;
     s->timers.alarm = 0;
-    place = put_message(room, place, HOST, ALARM_WARNING, word);
+    place = put_message(plain, room, place, HOST, ALARM_WARNING, word);
     if (word & CHARGER_ALARM_BITS)
-        place = put_message(room, place, CHARGER, ALARM_WARNING, word);
+        place = put_message(plain, room, place, CHARGER, ALARM_WARNING, word);
     return place;
 }
 
 /* The words 14 and 15 each 30,000 ms while CHARGER_MODE is clear (rule: Clock and broadcasts). */
 static size_t send_charger_words(struct sb2_state *s, uint32_t elapsed, uint8_t *room, size_t place)
 {
+    bool plain = s->settings.plain;
     if (s->host.charger_mode) {
         s->timers.charger = 0;
         return place;
@@ -158,19 +165,25 @@ static size_t send_charger_words(struct sb2_state *s, uint32_t elapsed, uint8_t 
         return place;
     }
     s->timers.charger = 0;
-    place = put_message(room, place, CHARGER, CHARGING_CURRENT, sb2_register(s, CHARGING_CURRENT));
-    return put_message(room, place, CHARGER, CHARGING_VOLTAGE, sb2_register(s, CHARGING_VOLTAGE));
+    place = put_message(plain, room, place, CHARGER, CHARGING_CURRENT, sb2_register(s, CHARGING_CURRENT));
+    return put_message(plain, room, place, CHARGER, CHARGING_VOLTAGE, sb2_register(s, CHARGING_VOLTAGE));
+}
+
+/* The room that four messages fill (rule: R-5). */
+static size_t room_needed(const struct sb2_state *s)
+{
+    return s->settings.plain ? SB2_PLAIN_ROOM : SB2_BROADCAST_ROOM;
 }
 
 /* 1, 2, or a sample taken: readings, minute, charge, cycles, the run, bit 4, countdown, then the messages (rules: Clock
- * and broadcasts; R-4). */
+ * and broadcasts; R-4; R-5). */
 int sb2_take_sample(struct sb2_state *state, const struct sb2_sample *sample, uint8_t *room, size_t room_length,
                     size_t *length)
 {
     *length = 0;
     if (!sb2_sound(state))
         return SB2_NOT_SOUND;
-    if (room_length < SB2_BROADCAST_ROOM)
+    if (room_length < room_needed(state))
         return SB2_SMALL_ROOM;
     uint32_t elapsed = sb2_elapsed(state->latest.counter, sample->counter);
     state->latest = *sample;

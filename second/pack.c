@@ -35,7 +35,7 @@ uint16_t sb2_pack_specification(unsigned version, unsigned revision, unsigned vo
 }
 
 /* 11 with the all-zero state, or 0 with the first state: no second complete or begun, nothing drawn, and a run open if
- * the pack is full (rules: Answer numbers; Registers; R-2; R-4). */
+ * the pack is full (rules: Answer numbers; Registers; R-2; R-4; R-5). */
 int sb2_set_up(struct sb2_state *state, const struct sb2_set_up *in)
 {
     struct sb2_set_up given = *in;
@@ -52,6 +52,7 @@ int sb2_set_up(struct sb2_state *state, const struct sb2_set_up *in)
     state->settings.charging_voltage = given.charging_voltage;
     state->settings.temperature_limit = given.temperature_limit;
     state->settings.discharge_limit = given.discharge_limit;
+    state->settings.plain = given.plain;
     state->host.remaining_capacity_alarm = given.design_capacity / 10;
     state->host.remaining_time_alarm = 10;
     state->latest = given.first;
@@ -133,7 +134,7 @@ bool sb2_same(const struct sb2_state *a, const struct sb2_state *b)
         p->max_error != q->max_error || p->manufacture_date != q->manufacture_date ||
         p->serial_number != q->serial_number || p->charging_current != q->charging_current ||
         p->charging_voltage != q->charging_voltage || p->temperature_limit != q->temperature_limit ||
-        p->discharge_limit != q->discharge_limit)
+        p->discharge_limit != q->discharge_limit || p->plain != q->plain)
         return false;
     const struct sb2_host *g = &a->host;
     const struct sb2_host *h = &b->host;

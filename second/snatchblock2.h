@@ -42,7 +42,8 @@ enum sb2_answer {
 /* Sizes and times of document 01 and of the shelf. */
 enum {
     SB2_REPLY_ROOM = 34,
-    SB2_BROADCAST_ROOM = 16,
+    SB2_BROADCAST_ROOM = 20, /* four messages, each with its PEC */
+    SB2_PLAIN_ROOM = 16,     /* and in plain */
     SB2_KEY_ROOM = 139,
     SB2_SHEET_ROOM = 145,
     SB2_SHELF_ROOM = 16,
@@ -74,6 +75,7 @@ struct sb2_settings {
     uint16_t charging_voltage;  /* mV */
     uint16_t temperature_limit; /* 0.1 K */
     uint16_t discharge_limit;   /* mV */
+    bool plain;                 /* messages without PEC */
 };
 
 /* What the host writes over the bus. */
@@ -147,6 +149,7 @@ struct sb2_set_up {
     uint16_t charging_voltage;
     uint16_t temperature_limit;
     uint16_t discharge_limit;
+    bool plain;
     struct sb2_sample first;
 };
 
@@ -170,8 +173,8 @@ uint16_t sb2_pack_specification(unsigned version, unsigned revision, unsigned vo
 /* Milliseconds from one counter reading to the next, wrapping (rule: Clock and broadcasts). */
 uint32_t sb2_elapsed(uint32_t before, uint32_t now);
 
-/* Takes a sample and writes the messages due: answers 0, 1 or 2; *length is four bytes for
- * each message, 0 if refused (rules: Clock and broadcasts; R-2; R-4). */
+/* Takes a sample and writes the messages due: answers 0, 1 or 2, this under 20 bytes of room, in plain under 16;
+ * *length is five bytes for each message, in plain four, 0 if refused (rules: Clock and broadcasts; R-2; R-4; R-5). */
 int sb2_take_sample(struct sb2_state *state, const struct sb2_sample *sample, uint8_t *room, size_t room_length,
                     size_t *length);
 
@@ -197,7 +200,7 @@ int sb2_transact(struct sb2_state *state, bool read, struct sb2_bytes message, s
 /* ---- the state in an area
 
  * The error code in one byte, then the parts, every number low byte first, a flag 0 or 1:
- *   settings  the nine words of sb2_settings in their order
+ *   settings  the nine words of sb2_settings in their order, then the flag plain
  *   host      the four words of sb2_host in their order, then its three flags
  *   latest    voltage, current and temperature of the latest sample; its counter, four bytes
  *   tank      charge, eight bytes; full capacity; cycle count; the flag of bit 4; drawn toward the next cycle and drawn
@@ -207,7 +210,7 @@ int sb2_transact(struct sb2_state *state, bool read, struct sb2_bytes message, s
  *             byte; the begun second's milliseconds, two bytes, and its total, four */
 enum {
     SB2_SETTINGS_AT = 1,
-    SB2_HOST_AT = SB2_SETTINGS_AT + 18,
+    SB2_HOST_AT = SB2_SETTINGS_AT + 19,
     SB2_LATEST_AT = SB2_HOST_AT + 11,
     SB2_TANK_AT = SB2_LATEST_AT + 10,
     SB2_TIMERS_AT = SB2_TANK_AT + 30,

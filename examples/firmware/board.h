@@ -13,8 +13,9 @@ struct snatchblock_reading board_measure(void);
 void board_interrupts_off(void);
 void board_interrupts_on(void);
 
-/* Sends a broadcast as the bus's master: START, the four bytes, STOP. The first is the address. */
-void board_send(const uint8_t message[4]);
+/* Sends a broadcast as the bus's master: START, its bytes, five with PEC or four in plain, STOP. The first is the
+ * address. */
+void board_send(const uint8_t *message, size_t length);
 
 void board_eeprom_read(uint8_t *to, size_t length);
 void board_eeprom_write(const uint8_t *from, size_t length);

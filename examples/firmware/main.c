@@ -208,9 +208,17 @@ static void charger_hears(uint8_t command, uint16_t word)
     printf("charger %s %u\n", of_current ? "ChargingCurrent" : "ChargingVoltage", word);
 }
 
-void board_send(const uint8_t message[4])
+/* Host and charger check a message as any other; of one in plain nothing can be told. */
+static void hearers_check(const uint8_t *message, size_t length)
+{
+    if (length != 4 && !snatchblock_check_right(snatchblock_exchange_check(message, length)))
+        die("a broadcast is damaged");
+}
+
+void board_send(const uint8_t *message, size_t length)
 {
     uint16_t word = (uint16_t)(message[2] | message[3] << 8);
+    hearers_check(message, length);
     alarms_sent += message[1] == ALARM_WARNING;
     charger_words_sent += message[1] != ALARM_WARNING;
     if (message[0] == HOST)

@@ -9,6 +9,10 @@
 
 #include <string.h>
 
+#ifndef PACK_PLAIN
+#define PACK_PLAIN false /* true for an old hut, whose hearers don't understand PEC */
+#endif
+
 enum { QUIET_SECONDS = 10 }; /* the specification: no broadcast so long after the bus came on */
 
 static uint8_t area[SNATCHBLOCK_AREA];
@@ -33,6 +37,7 @@ static bool set_up(uint16_t remaining, uint16_t MaxError)
         .ChargingVoltage = 16800,
         .TemperatureLimit = 3182, /* 45 °C */
         .DischargeLimit = 12300, /* empty, under the sprayer's load */
+        .plain = PACK_PLAIN,
     };
     const struct snatchblock_reading first = board_measure();
     return snatchblock_served(snatchblock_set_up_from(area, sizeof area, &setup, &first));
@@ -121,6 +126,7 @@ void pack_on_second(void)
         seconds_on++;
         return;
     }
-    for (size_t at = 0; at < snatchblock_length_of(result); at += 4)
-        board_send(room + at);
+    size_t each = snatchblock_message_length(area);
+    for (size_t at = 0; at < snatchblock_length_of(result); at += each)
+        board_send(room + at, each);
 }

@@ -6,7 +6,7 @@
 
 #include <string.h>
 
-enum { REPLY_ROOM = 34, BROADCAST_ROOM = 16, KEY_ROOM = 139, SHEET_ROOM = 145, SHELF_ROOM = 16 };
+enum { REPLY_ROOM = 34, BROADCAST_ROOM = 20, PLAIN_ROOM = 16, KEY_ROOM = 139, SHEET_ROOM = 145, SHELF_ROOM = 16 };
 enum { AREA_MOST = 2 * SNATCHBLOCK_AREA, ROOM_MOST = 200, GUARD = 24, MARK = 0xA5 };
 
 /* The answer number and what stands above it in a packed result. */
@@ -49,10 +49,11 @@ struct figures {
     uint16_t design, full, remaining, millivolts;
 };
 
+/* In plain: broadcasts are of four bytes here, and tests/c/broadcast.c looks at those with PEC. */
 static uint32_t set_up_in(size_t length, struct figures f, int16_t current, uint32_t counter)
 {
     return snatchblock_set_up(area, length, f.design, f.full, f.remaining, f.millivolts, 2, 7, 0x526F, 17, 2000, 16800,
-                              3182, 11000, 14800, current, 2981, counter);
+                              3182, 11000, true, 14800, current, 2981, counter);
 }
 
 static const struct figures usual = {4000, 4000, 2000, 14800};
@@ -87,7 +88,7 @@ static void write_word(uint8_t command, uint16_t word)
 static uint32_t sample(uint16_t millivolts, int16_t current, uint16_t temperature, uint32_t counter)
 {
     new_room();
-    return snatchblock_sample(area, SNATCHBLOCK_AREA, millivolts, current, temperature, counter, room, BROADCAST_ROOM);
+    return snatchblock_sample(area, SNATCHBLOCK_AREA, millivolts, current, temperature, counter, room, PLAIN_ROOM);
 }
 
 /* ---- set-up, the area, soundness */
@@ -121,6 +122,7 @@ static void layout(void)
 {
     usual_pack();
     const uint8_t front[] = {0, 0xA0, 0x0F, 0xD0, 0x39, 2, 0, 0x6F, 0x52, 17, 0, 0xD0, 0x07, 0xA0, 0x41, 0x6E, 0x0C, 0xF8, 0x2A,
+                             1, /* plain */
                              0, 0, 0x90, 0x01, 10, 0, 0, 0, 0, 0, 0, 0xD0, 0x39, 0, 0, 0xA5, 0x0B, 0, 0, 0, 0,
                              /* 2,000 mAh are 7,200,000,000 mA·ms */
                              0x00, 0x48, 0x27, 0xAD, 1, 0, 0, 0, 0xA0, 0x0F, 7, 0, 0,
@@ -130,7 +132,7 @@ static void layout(void)
     CHECK(memcmp(area, front, sizeof front), 0);
     for (size_t i = SNATCHBLOCK_RECENT; i < SNATCHBLOCK_AREA; i++)
         CHECK(area[i], 0);
-    CHECK(SNATCHBLOCK_AREA, 329);
+    CHECK(SNATCHBLOCK_AREA, 330);
 }
 
 static void put(size_t at, size_t bytes, uint64_t value)
@@ -160,6 +162,8 @@ static void soundness(void)
     border(0, 1, 7, 8);
     border(SNATCHBLOCK_SETTINGS, 2, 1, 0);
     border(SNATCHBLOCK_SETTINGS + 2, 2, 1, 0);
+    border(SNATCHBLOCK_PLAIN, 1, 0, 2);
+    border(SNATCHBLOCK_PLAIN, 1, 1, 255);
     border(SNATCHBLOCK_HOST + 8, 1, 0, 1); /* ALARM_MODE without a hold */
     border(SNATCHBLOCK_HOST + 9, 1, 1, 2);
     border(SNATCHBLOCK_HOST + 10, 1, 1, 2);
@@ -195,7 +199,7 @@ static void sample_sizes(void)
         static uint8_t before[sizeof area_memory];
         memcpy(before, area_memory, sizeof before);
         new_room();
-        CHECK(snatchblock_sample(area, length, 0, 0, 0, 30000, room, BROADCAST_ROOM), 1);
+        CHECK(snatchblock_sample(area, length, 0, 0, 0, 30000, room, PLAIN_ROOM), 1);
         CHECK(snatchblock_sample(area, length, 0, 0, 0, 30000, room, 0), 1);
         CHECK(room_is(NULL, 0) && memcmp(area_memory, before, sizeof before) == 0, true);
     }
@@ -207,9 +211,9 @@ static void sample_sizes(void)
         memcpy(before, area, sizeof before);
         new_room();
         uint32_t result = snatchblock_sample(area, SNATCHBLOCK_AREA, 14800, 100, 3183, 30000, room, length);
-        CHECK(result, length < BROADCAST_ROOM ? 2 : PACKED(0, 16));
-        CHECK(room_is(four, length < BROADCAST_ROOM ? 0 : 16), true);
-        CHECK(memcmp(before, area, sizeof before) == 0, length < BROADCAST_ROOM);
+        CHECK(result, length < PLAIN_ROOM ? 2 : PACKED(0, 16));
+        CHECK(room_is(four, length < PLAIN_ROOM ? 0 : 16), true);
+        CHECK(memcmp(before, area, sizeof before) == 0, length < PLAIN_ROOM);
     }
 }
 
@@ -891,7 +895,7 @@ static void answer_names(void)
     CHECK(sizeof names / sizeof *names, 18);
     for (unsigned i = 0; i < 18; i++)
         CHECK(names[i], i);
-    CHECK(SNATCHBLOCK_VERSION, 3);
+    CHECK(SNATCHBLOCK_VERSION, 4);
 }
 
 static uint32_t number_at(size_t at, size_t bytes)
@@ -908,7 +912,7 @@ static void wrappers(void)
     const struct snatchblock_setup setup = {
         .DesignCapacity = 4001, .full = 4002, .remaining = 1003, .DesignVoltage = 14804, .MaxError = 5, .CycleCount = 6,
         .ManufactureDate = 20007, .SerialNumber = 108, .ChargingCurrent = 2009, .ChargingVoltage = 16810,
-        .TemperatureLimit = 3111, .DischargeLimit = 11012};
+        .TemperatureLimit = 3111, .DischargeLimit = 11012, .plain = true};
     const struct snatchblock_reading first = {.voltage = 14013, .current = -1014, .temperature = 2915, .counter = 0xFFFF0016};
     const struct snatchblock_reading next = {.voltage = 14117, .current = 1118, .temperature = 2919, .counter = 0x00010020};
     const uint16_t settings[9] = {4001, 14804, 5, 20007, 108, 2009, 16810, 3111, 11012};
@@ -917,6 +921,7 @@ static void wrappers(void)
     CHECK(snatchblock_set_up_from(area, SNATCHBLOCK_AREA, &setup, &first), 0);
     for (size_t i = 0; i < 9; i++)
         CHECK(number_at(SNATCHBLOCK_SETTINGS + 2 * i, 2), settings[i]);
+    CHECK(area[SNATCHBLOCK_PLAIN], 1);
     CHECK(read_word(0x10), 4002);
     CHECK(read_word(0x0F), 1003);
     CHECK(read_word(0x17), 6);
@@ -925,8 +930,8 @@ static void wrappers(void)
     CHECK(number_at(SNATCHBLOCK_LATEST + 4, 2), 2915);
     CHECK(number_at(SNATCHBLOCK_LATEST + 6, 4), 0xFFFF0016);
     new_room();
-    CHECK(snatchblock_sample_from(area, SNATCHBLOCK_AREA, &next, room, BROADCAST_ROOM - 1), 2);
-    CHECK(snatchblock_sample_from(area, SNATCHBLOCK_AREA, &next, room, BROADCAST_ROOM), PACKED(0, 8)); /* 131,082 ms on */
+    CHECK(snatchblock_sample_from(area, SNATCHBLOCK_AREA, &next, room, PLAIN_ROOM - 1), 2);
+    CHECK(snatchblock_sample_from(area, SNATCHBLOCK_AREA, &next, room, PLAIN_ROOM), PACKED(0, 8)); /* 131,082 ms on */
     CHECK(room[2] | room[3] << 8, 2009);
     CHECK(number_at(SNATCHBLOCK_LATEST, 2), 14117);
     CHECK(number_at(SNATCHBLOCK_LATEST + 2, 2), 1118);

@@ -10,7 +10,7 @@ static const uint8_t no_names[1] = {0};
 
 static struct snatchblock_setup setup_of_a_pack(void)
 {
-    struct snatchblock_setup setup = {0, 0, 0, 0, 0, 0, 0, 0, 0, 0, 0, 0};
+    struct snatchblock_setup setup = {0, 0, 0, 0, 0, 0, 0, 0, 0, 0, 0, 0, false};
     setup.DesignCapacity = 4000;
     setup.full = 4000;
     setup.remaining = 2000;
@@ -26,6 +26,8 @@ static bool pack_answers(void)
     struct snatchblock_reading reading = {14800, 0, 0, 0};
     uint32_t result = snatchblock_set_up_from(area, sizeof area, &setup, &reading);
     if (snatchblock_answer_of(result) != SNATCHBLOCK_SERVED || !snatchblock_sound(area, sizeof area))
+        return false;
+    if (area[SNATCHBLOCK_PLAIN] != 0 || snatchblock_message_length(area) != 5)
         return false;
     result = snatchblock_sample_from(area, sizeof area, &reading, room, sizeof room);
     if (!snatchblock_served(result))

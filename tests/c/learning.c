@@ -18,12 +18,17 @@ static uint8_t area[SNATCHBLOCK_AREA], room[SNATCHBLOCK_REPLY_ROOM];
 static uint32_t counter;
 
 /* A pack of 100 mAh by design, so many of them left; below 12,000 mV it is empty. */
-static void set_up(uint16_t remaining, uint16_t cycles)
+static void set_up_for(bool plain, uint16_t remaining, uint16_t cycles)
 {
     counter = 4294967000u; /* over the counter's wrap */
     memset(area, 0xA5, sizeof area);
     CHECK(snatchblock_set_up(area, sizeof area, DESIGN, DESIGN, remaining, 14800, 2, cycles, 0x526F, 17, 2000, 16800,
-                             3182, LIMIT, 14800, 0, 2981, counter), 0);
+                             3182, LIMIT, plain, 14800, 0, 2981, counter), 0);
+}
+
+static void set_up(uint16_t remaining, uint16_t cycles)
+{
+    set_up_for(false, remaining, cycles);
 }
 
 static uint32_t sample_in(size_t room_length, uint16_t voltage, int16_t current, uint32_t reading)
@@ -197,7 +202,7 @@ static void run_ends(void)
 /* 10 mAh, 10 mAh and 35,999,000 mA·ms: 29 whole mAh. The alarm has bits 11, 9, 8, 7, 6 and 4, and the low four. */
 static void run_closes(void)
 {
-    set_up(100, 3);
+    set_up_for(true, 100, 3); /* the alarm is looked at, in its four bytes */
     flow(-1000, 36000);
     flow(-1000, 36000);
     RUN(true, 72000000);
@@ -356,8 +361,8 @@ static void worked_example(void)
 {
     uint8_t low_area[sizeof area];
     counter = 0;
-    CHECK(snatchblock_set_up(area, sizeof area, 4000, 4000, 4000, 14800, 0, 5, 0, 0, 0, 0, 4000, LIMIT, 16000, 0, 2981,
-                             counter), 0);
+    CHECK(snatchblock_set_up(area, sizeof area, 4000, 4000, 4000, 14800, 0, 5, 0, 0, 0, 0, 4000, LIMIT, false, 16000, 0,
+                             2981, counter), 0);
     CAPACITIES(4000, 4000, 5);
     flow_at(12500, -1000, 12600000);
     CAPACITIES(500, 4000, 5);

@@ -17,12 +17,17 @@ static uint8_t area[SNATCHBLOCK_AREA], room[SNATCHBLOCK_REPLY_ROOM];
 static uint32_t counter;
 
 /* Remaining of 4,000 mAh; the first sample's current and the counter's reading. */
-static void set_up(uint16_t remaining, int16_t current, uint32_t reading)
+static void set_up_for(bool plain, uint16_t remaining, int16_t current, uint32_t reading)
 {
     counter = reading;
     memset(area, 0xA5, sizeof area);
     CHECK(snatchblock_set_up(area, sizeof area, 4000, 4000, remaining, 14800, 2, 7, 0x526F, 17, 2000, 16800, 3182, 11000,
-                             14800, current, 2981, counter), 0);
+                             plain, 14800, current, 2981, counter), 0);
+}
+
+static void set_up(uint16_t remaining, int16_t current, uint32_t reading)
+{
+    set_up_for(false, remaining, current, reading);
 }
 
 /* A current that flowed for so many ms. */
@@ -225,7 +230,7 @@ static void the_mechanic(void)
 /* 12, 13 and bit 8, with its alarm, read the mean. */
 static void readers_of_the_mean(void)
 {
-    set_up(2002, -1000, 0);
+    set_up_for(true, 2002, -1000, 0); /* the alarm is looked at, in its four bytes */
     CHECK(word(0x12), 120);
     CHECK(word(0x13), 65535);
     flow(-1000, 1000);
@@ -251,7 +256,7 @@ static void readers_of_the_mean(void)
 
 static void places(void)
 {
-    CHECK(SNATCHBLOCK_RECENT, 82);
+    CHECK(SNATCHBLOCK_RECENT, 83);
     CHECK(SNATCHBLOCK_AREA, END);
     set_up(2000, -9, 0);
     for (size_t i = TOTALS; i < END; i++)

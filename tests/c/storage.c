@@ -58,12 +58,13 @@ static uint16_t read_word(uint8_t command)
     return (uint16_t)number_at(room, 2);
 }
 
-/* A pack of 11,500 of 12,000 mAh that ran an hour at -500 mA; the latest reading is given, and a hold runs. */
+/* A pack of 11,500 of 12,000 mAh that ran an hour at -500 mA; the latest reading is given, and a hold runs. It asks for
+ * plain: the bytes of the charger's words are counted. */
 static void autumn(uint32_t reading)
 {
     const struct snatchblock_setup setup = {
         .DesignCapacity = FULL, .full = FULL, .remaining = 11500, .DesignVoltage = 14400, .ChargingCurrent = 1500,
-        .ChargingVoltage = 16800, .TemperatureLimit = 3182, .DischargeLimit = 12300};
+        .ChargingVoltage = 16800, .TemperatureLimit = 3182, .DischargeLimit = 12300, .plain = true};
     const struct snatchblock_reading first = {.voltage = 14800, .temperature = 2931, .counter = reading - MS_PER_HOUR};
     CHECK(snatchblock_set_up_from(area, sizeof area, &setup, &first), 0);
     CHECK(snatchblock_answer_of(sample(-500, reading)), SNATCHBLOCK_SERVED);

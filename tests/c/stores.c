@@ -55,7 +55,7 @@ static uint8_t *across(size_t before, bool written)
 static void new_state(void)
 {
     CHECK(snatchblock_set_up(state, sizeof state, 4000, 4000, 2000, 14800, 2, 7, 0x526F, 17, 2000, 16800, 3182, 11000,
-                             14800, -500, 2981, 0), 0);
+                             false, 14800, -500, 2981, 0), 0);
 }
 
 /* ---- a call, and what it may store */
@@ -154,6 +154,10 @@ static void untouched(void)
     CHECK(state[0], 8);
     state[SNATCHBLOCK_HOST + 8] = 2;
     NOTHING(READ(0x09), 1);
+    new_state();
+    state[SNATCHBLOCK_PLAIN] = 2;
+    NOTHING(READ(0x09), 1);
+    NOTHING(WRITE(0x02, 10, 0), 1);
     new_state();
 }
 

@@ -1,13 +1,14 @@
 /* Areas of the versions before: each is answered 1 as it is, and goes on in this version as the header says. The bytes
- * are those that versions 1 and 2 stored, laid out by hand from their headers. */
+ * are those that versions 1, 2 and 3 stored, laid out by hand from their headers. */
 #include "check.h"
 #include "snatchblock.h"
 
 #include <string.h>
 
-/* Both have these places; then came RECENT. */
+/* Versions 1 and 2 have these places; in version 3 the tank's counts stand before TIMERS. */
 enum { OLD_SETTINGS = 1, OLD_HOST = 19, OLD_LATEST = 30, OLD_TANK = 40, OLD_TIMERS = 53, OLD_RECENT = 65 };
-enum { VERSION_1 = 186, VERSION_2 = 312, ADDED = 17 };
+enum { VERSION_1 = 186, VERSION_2 = 312, VERSION_3 = 329, COUNTS = 17 };
+enum { WITH_PEC = 0, PLAIN = 1, PLAIN_ROOM = 16 };
 
 static uint8_t area[SNATCHBLOCK_AREA], room[SNATCHBLOCK_REPLY_ROOM];
 static const uint8_t no_names[1] = {0};
@@ -44,35 +45,86 @@ static void version_2(uint8_t old[VERSION_2])
     memcpy(old + VERSION_2 - sizeof end, end, sizeof end);
 }
 
-/* ---- how one goes on */
+/* 1,000 mAh (3,600,000,000 mA·ms) toward the next cycle, and a run of 2,500 mAh (9,000,000,000). */
+static const uint8_t counts[COUNTS] = {0x00, 0xA4, 0x93, 0xD6, 0, 0, 0, 0, 0x00, 0x1A, 0x71, 0x18, 2, 0, 0, 0, 1};
+static const uint8_t no_counts[COUNTS] = {0};
 
-/* Its first 53 bytes, 17 zeros, then so many of those after the 53, and zeros to the end. */
-static void goes_on(const uint8_t *old, size_t more)
+/* The same minute. */
+static void version_3(uint8_t old[VERSION_3])
 {
-    memset(area, 0, sizeof area);
-    memcpy(area, old, OLD_TIMERS);
-    memcpy(area + OLD_TIMERS + ADDED, old + OLD_TIMERS, more);
+    uint8_t before[VERSION_2];
+    version_2(before);
+    memcpy(old, before, OLD_TIMERS);
+    memcpy(old + OLD_TIMERS, counts, COUNTS);
+    memcpy(old + OLD_TIMERS + COUNTS, before + OLD_TIMERS, VERSION_2 - OLD_TIMERS);
 }
 
-static void from_version_1(void)
+/* ---- how one goes on, word by word as the header says it */
+
+static size_t filled;
+
+static void take(const uint8_t *bytes, size_t length)
+{
+    memcpy(area + filled, bytes, length);
+    filled += length;
+}
+
+static void zeros(size_t length)
+{
+    memset(area + filled, 0, length);
+    filled += length;
+}
+
+/* The first 19 bytes, and the one that is new. */
+static void begin(const uint8_t *old, uint8_t plain)
+{
+    memset(area, 0xA5, sizeof area);
+    filled = 0;
+    take(old, 19);
+    take(&plain, 1);
+}
+
+static void from_version_1(uint8_t plain)
 {
     uint8_t old[VERSION_1];
     version_1(old);
-    goes_on(old, OLD_RECENT - OLD_TIMERS);
+    begin(old, plain);
+    take(old + 19, 34);
+    zeros(17);
+    take(old + 53, 12);
+    zeros(sizeof area - filled);
 }
 
-static void from_version_2(void)
+static void from_version_2(uint8_t plain)
 {
     uint8_t old[VERSION_2];
     version_2(old);
-    goes_on(old, VERSION_2 - OLD_TIMERS);
+    begin(old, plain);
+    take(old + 19, 34);
+    zeros(17);
+    take(old + 53, sizeof old - 53);
+    CHECK(filled, sizeof area);
+}
+
+static void from_version_3(uint8_t plain)
+{
+    uint8_t old[VERSION_3];
+    version_3(old);
+    begin(old, plain);
+    take(old + 19, sizeof old - 19);
+    CHECK(filled, sizeof area);
 }
 
 /* ---- the pack */
 
+static uint32_t sample_in(size_t room_length, uint16_t voltage, int16_t current, uint32_t counter)
+{
+    return snatchblock_sample(area, sizeof area, voltage, current, 2981, counter, room, room_length);
+}
+
 static uint32_t sample(uint16_t voltage, int16_t current, uint32_t counter)
 {
-    return snatchblock_sample(area, sizeof area, voltage, current, 2981, counter, room, SNATCHBLOCK_BROADCAST_ROOM);
+    return sample_in(SNATCHBLOCK_BROADCAST_ROOM, voltage, current, counter);
 }
 
 static uint16_t word(uint8_t command)
@@ -85,7 +137,7 @@ static uint16_t word(uint8_t command)
 static void refused_at(int line, uint8_t *old, size_t length)
 {
     static const uint8_t ask[3] = {0x16, 0x0F, 0x17};
-    uint8_t before[VERSION_2];
+    uint8_t before[VERSION_3];
     memcpy(before, old, length);
     uint32_t read = snatchblock_transact(old, length, no_names, 1, no_names, 1, true, ask, 3, room, sizeof room);
     check_at(line, "sound", snatchblock_sound(old, length), false);
@@ -96,24 +148,27 @@ static void refused_at(int line, uint8_t *old, size_t length)
 
 static void as_they_are(void)
 {
-    uint8_t first[VERSION_1], second[VERSION_2];
+    uint8_t first[VERSION_1], second[VERSION_2], third[VERSION_3];
     version_1(first);
     version_2(second);
+    version_3(third);
     refused_at(__LINE__, first, sizeof first);
     refused_at(__LINE__, second, sizeof second);
+    refused_at(__LINE__, third, sizeof third);
+    CHECK(SNATCHBLOCK_AREA, VERSION_3 + 1);
 }
 
 /* The parts stand where the header has them now, and the pack shows what it showed. */
-static void the_same_pack(void)
+static void the_same_pack(uint8_t plain, const uint8_t drawn[COUNTS])
 {
-    static const uint8_t zeros[ADDED] = {0};
     CHECK(snatchblock_sound(area, sizeof area), true);
-    CHECK(SNATCHBLOCK_AREA, VERSION_2 + ADDED);
+    CHECK(area[SNATCHBLOCK_PLAIN], plain);
+    CHECK(snatchblock_message_length(area), plain == PLAIN ? 4 : 5);
     CHECK(memcmp(area + SNATCHBLOCK_SETTINGS, front + OLD_SETTINGS, OLD_HOST - OLD_SETTINGS), 0);
     CHECK(memcmp(area + SNATCHBLOCK_HOST, front + OLD_HOST, OLD_LATEST - OLD_HOST), 0);
     CHECK(memcmp(area + SNATCHBLOCK_LATEST, front + OLD_LATEST, OLD_TANK - OLD_LATEST), 0);
     CHECK(memcmp(area + SNATCHBLOCK_TANK, front + OLD_TANK, OLD_TIMERS - OLD_TANK), 0);
-    CHECK(memcmp(area + SNATCHBLOCK_TANK + 13, zeros, ADDED), 0);
+    CHECK(memcmp(area + SNATCHBLOCK_TANK + 13, drawn, COUNTS), 0);
     CHECK(memcmp(area + SNATCHBLOCK_TIMERS, front + OLD_TIMERS, OLD_RECENT - OLD_TIMERS), 0);
     CHECK(word(0x01), 1234);
     CHECK(word(0x09), 14000);
@@ -123,11 +178,26 @@ static void the_same_pack(void)
     CHECK(word(0x17), 7);
 }
 
-/* Charge, cycles and the charger's words go on; no run is open, so none closes until the pack was full. */
+/* The charger's words at 2,300 + 27,700 ms: in plain as before, in the room of before; else with PECs, which are of a
+ * long division done elsewhere, bit by bit. */
+static void goes_on_broadcasting(uint8_t plain)
+{
+    static const uint8_t words[] = {0x12, 0x14, 0xD0, 0x07, 0xED, 0x12, 0x15, 0xA0, 0x41, 0xF1};
+    static const uint8_t words_in_plain[] = {0x12, 0x14, 0xD0, 0x07, 0x12, 0x15, 0xA0, 0x41};
+    CHECK(snatchblock_answer_of(sample(14000, -1000, 3000 + 27699)), 0);
+    if (plain == PLAIN) {
+        CHECK(sample_in(PLAIN_ROOM, 14000, 0, 3000 + 27700), 8u << 8);
+        CHECK(memcmp(room, words_in_plain, 8), 0);
+        return;
+    }
+    CHECK(sample_in(PLAIN_ROOM, 14000, 0, 3000 + 27700), 2);
+    CHECK(sample(14000, 0, 3000 + 27700), 10u << 8);
+    CHECK(memcmp(room, words, 10), 0);
+}
+
+/* Charge and cycles go on from 30,700 ms; no run is open, so none closes until the pack was full. */
 static void goes_on_counting(void)
 {
-    CHECK(snatchblock_answer_of(sample(14000, -1000, 3000 + 27699)), 0);
-    CHECK(snatchblock_length_of(sample(14000, 0, 3000 + 27700)), 8); /* 2,300 + 27,700 ms: 14 and 15 */
     CHECK(snatchblock_answer_of(sample(10999, -1000, 30700 + 3572301)), 0); /* 3,600,000,000 mA·ms since it went on */
     CHECK(word(0x0F), 500);
     CHECK(word(0x10), 4000);
@@ -144,28 +214,64 @@ static void goes_on_counting(void)
     CHECK(word(0x0F), 0);
 }
 
-/* Of version 1 no second is complete; of version 2 the minute goes on: -500,000 ÷ 2,000; 700 ms complete a third. */
+/* Of version 3 the counts go on, and the run closes: 27,699,000 mA·ms before 30,700 ms, and 3,572,301,000 after it. */
+static void goes_on_learning(void)
+{
+    CHECK(snatchblock_answer_of(sample(10999, -1000, 30700 + 3572301)), 0);
+    CHECK(word(0x0F), 0);
+    CHECK(word(0x10), 3500);
+    CHECK(word(0x17), 7);
+    CHECK(snatchblock_answer_of(sample(10999, -2000, 3603001 + 3599999)), 0); /* 2,000 mA·ms short of a cycle */
+    CHECK(word(0x17), 7);
+    CHECK(snatchblock_answer_of(sample(10999, -2000, 7203001)), 0);
+    CHECK(word(0x17), 8);
+    CHECK(word(0x10), 3500);
+}
+
+/* Of version 1 no second is complete; of 2 and 3 the minute goes on: -500,000 ÷ 2,000; 700 ms complete a third. */
 static void the_minute(void)
 {
-    from_version_1();
+    from_version_1(PLAIN);
     CHECK(word(0x0B), 0x10000 - 1000);
     CHECK(snatchblock_answer_of(sample(14000, 20, 4000)), 0);
     CHECK(word(0x0B), 20);
-    from_version_2();
-    CHECK(word(0x0B), 0x10000 - 250);
-    CHECK(snatchblock_answer_of(sample(14000, 0, 3700)), 0);
-    CHECK(word(0x0B), 0x10000 - 266); /* -800,000 ÷ 3,000 */
+    for (int version = 2; version <= 3; version++) {
+        if (version == 2)
+            from_version_2(PLAIN);
+        else
+            from_version_3(PLAIN);
+        CHECK(word(0x0B), 0x10000 - 250);
+        CHECK(snatchblock_answer_of(sample(14000, 0, 3700)), 0);
+        CHECK(word(0x0B), 0x10000 - 266); /* -800,000 ÷ 3,000 */
+    }
+}
+
+/* Each version with either byte; any other byte is no flag. */
+static void each_version(void)
+{
+    for (uint8_t plain = WITH_PEC; plain <= PLAIN; plain++) {
+        from_version_1(plain);
+        the_same_pack(plain, no_counts);
+        goes_on_broadcasting(plain);
+        goes_on_counting();
+        from_version_2(plain);
+        the_same_pack(plain, no_counts);
+        goes_on_broadcasting(plain);
+        goes_on_counting();
+        from_version_3(plain);
+        the_same_pack(plain, counts);
+        goes_on_broadcasting(plain);
+        goes_on_learning();
+    }
+    from_version_3(2);
+    CHECK(snatchblock_sound(area, sizeof area), false);
+    CHECK(sample(14000, 0, 4000), 1);
 }
 
 int main(void)
 {
     as_they_are();
-    from_version_1();
-    the_same_pack();
-    goes_on_counting();
-    from_version_2();
-    the_same_pack();
-    goes_on_counting();
+    each_version();
     the_minute();
     return checked("upgrade");
 }

@@ -15,8 +15,8 @@
 #include <sys/mman.h>
 #include <unistd.h>
 
-enum { LEAST = 1000000, USUAL = 2000000, GUARD = 16, AREA_MOST = 658, ROOM_MOST = 200, PAGE = 4096, LENT_PAGES = 4 };
-enum { VERSION_1 = 186, VERSION_2 = 312 }; /* the bytes of an area in the versions before */
+enum { LEAST = 1000000, USUAL = 2000000, GUARD = 16, AREA_MOST = 660, ROOM_MOST = 200, PAGE = 4096, LENT_PAGES = 4 };
+enum { VERSION_1 = 186, VERSION_2 = 312, VERSION_3 = 329 }; /* the bytes of an area in the versions before */
 
 static uint64_t seed, calls, wanted_calls;
 
@@ -290,9 +290,9 @@ static uint64_t came[ENTRIES][ANSWERS];
 enum other {
     READ_SERVED, WRITE_SERVED = READ_SERVED + 2 * 64, TIME_IN_MAH = WRITE_SERVED + 2 * 5, TIME_IN_POWER = TIME_IN_MAH + 15,
     AT_RATE_OK = TIME_IN_POWER + 12, STATUS_SET = AT_RATE_OK + 4, STATUS_CLEAR = STATUS_SET + 16,
-    BIT_4_WAS_CLEAR = STATUS_CLEAR + 16, BIT_4_WAS_SET = BIT_4_WAS_CLEAR + 3, MESSAGES_0 = BIT_4_WAS_SET + 3, MESSAGES_1,
-    MESSAGES_2, MESSAGES_3, MESSAGES_4, ALARM_BIT, COUNTER_WRAPPED = ALARM_BIT + 16, HOLD_RAN_OUT, EXCHANGE_RIGHT,
-    EXCHANGE_WRONG, BLOCK_SERVICE, BLOCK_FACTORY, BLOCK_NEITHER, STEP_ROW, STEP_ROW_OF_OTHERS, STEP_PAST_LAST,
+    BIT_4_WAS_CLEAR = STATUS_CLEAR + 16, BIT_4_WAS_SET = BIT_4_WAS_CLEAR + 3, MESSAGES = BIT_4_WAS_SET + 3,
+    ALARM_BIT = MESSAGES + 2 * 5, COUNTER_WRAPPED = ALARM_BIT + 16, HOLD_RAN_OUT, EXCHANGE_RIGHT, EXCHANGE_WRONG,
+    BLOCK_SERVICE, BLOCK_FACTORY, BLOCK_NEITHER, STEP_ROW, STEP_ROW_OF_OTHERS, STEP_PAST_LAST,
     STEP_IN_TABLE, STEP_PAST_END, STEP_AT_0, STEP_CUT_TABLE, STEP_TOO_LONG, STEP_MISFIT, SHELF_OF,
     SHELF_OF_MORE = SHELF_OF + 65, SHELF_LOWEST = SHELF_OF_MORE + 3, SHELF_TIE = SHELF_LOWEST + 64,
     SHELF_NEAR = SHELF_TIE + 2, SHELF_FIFTH = SHELF_NEAR + 3, SHELF_EDGE = SHELF_FIFTH + 5,
@@ -301,12 +301,14 @@ enum other {
     SECONDS_DONE, SECONDS_KEPT = SECONDS_DONE + 9, WRAP_IN_SECOND = SECONDS_KEPT + 61, MEAN_OF,
     MINUTE_COUNT = MEAN_OF + 8, MINUTE_MS = MINUTE_COUNT + 6, MINUTE_BEGUN = MINUTE_MS + 5,
     MINUTE_UNDER = MINUTE_BEGUN + 5, MINUTE_OVER = MINUTE_UNDER + 5 * 60, AREA_OF_OLD = MINUTE_OVER + 5 * 60,
-    PARTS_OF = AREA_OF_OLD + 2 * 3, CARRIES = PARTS_OF + 5 * 5, CYCLES_OF = CARRIES + 4, CYCLES_END = CYCLES_OF + 4,
+    PARTS_OF = AREA_OF_OLD + 3 * 3, CARRIES = PARTS_OF + 5 * 5, CYCLES_OF = CARRIES + 4, CYCLES_END = CYCLES_OF + 4,
     TOWARD_OF = CYCLES_END + 4, DRAWN_EMPTY = TOWARD_OF + 3, RUN_OPENS = DRAWN_EMPTY + 2, RUN_STAYS = RUN_OPENS + 5,
     RUN_HELD = RUN_STAYS + 4, RUN_ENDS = RUN_HELD + 3, RUN_NONE = RUN_ENDS + 2, CLOSED_AFTER = RUN_NONE + 2,
     CLOSED_WITH = CLOSED_AFTER + 4, LEARNED = CLOSED_WITH + 5, LEARNED_BY_DESIGN = LEARNED + 5,
     ABSOLUTE = LEARNED_BY_DESIGN + 3, TANK_TOWARD = ABSOLUTE + 3, TANK_OPEN = TANK_TOWARD + 4,
-    TANK_CLOSED = TANK_OPEN + 4, TANK_FLAG = TANK_CLOSED + 4, OTHERS = TANK_FLAG + 8
+    TANK_CLOSED = TANK_OPEN + 4, TANK_FLAG = TANK_CLOSED + 4, SET_UP_OF = TANK_FLAG + 8, ROOM_OF = SET_UP_OF + 4,
+    BEFORE_2 = ROOM_OF + 2 * 22, ONE_ROOM = BEFORE_2 + 3, DUE_REFUSED = ONE_ROOM + 7, DUE_SERVED = DUE_REFUSED + 5,
+    PLAIN_FLAG = DUE_SERVED + 5, ALTERED = PLAIN_FLAG + 4, OTHERS = ALTERED + 4
 };
 static uint64_t other[OTHERS];
 
@@ -319,6 +321,7 @@ static void came_up(enum entry entry, uint64_t result)
 
 static uint8_t state_area[AREA_MOST]; /* the pack's area between calls */
 static unsigned long since_full;      /* samples since set-up or the last one at full */
+static size_t sent_bytes;             /* by the latest sample */
 static uint8_t service[145], factory[145];
 static size_t service_length, factory_length;
 
@@ -327,19 +330,21 @@ static struct sb2_bytes bytes_of(const uint8_t *at, size_t length)
     return (struct sb2_bytes){at, length};
 }
 
-/* Mostly the right size; at times another, those of versions 1 and 2 among them. */
+/* Mostly the right size; at times another, those of versions 1 to 3 among them. */
+static const size_t old_sizes[3] = {VERSION_1, VERSION_2, VERSION_3};
 static size_t area_size(void)
 {
     if (!one_in(40))
         return SNATCHBLOCK_AREA;
-    return one_in(4) ? VERSION_1 : one_in(3) ? VERSION_2 : below(AREA_MOST + 1);
+    return one_in(2) ? old_sizes[below(3)] : below(AREA_MOST + 1);
 }
 
 /* An area of a version before came to one of the three entries that look at it. */
 static void note_old(size_t length, unsigned entry)
 {
-    if (length == VERSION_1 || length == VERSION_2)
-        other[AREA_OF_OLD + 3 * (length == VERSION_2) + entry]++;
+    for (size_t i = 0; i < 3; i++)
+        if (length == old_sizes[i])
+            other[AREA_OF_OLD + 3 * i + entry]++;
 }
 
 /* Where the area keeps the minute: 60 totals, how many count, the begun second's ms and its total. */
@@ -349,7 +354,7 @@ enum { TOTALS_AT = SNATCHBLOCK_RECENT, KEPT_AT = TOTALS_AT + 4 * SB2_SECONDS, BE
 /* Where it keeps the tank's fields, and the most that a run counts. */
 enum { FULL_AT = SNATCHBLOCK_TANK + 8, CYCLES_AT = SNATCHBLOCK_TANK + 10, BIT_4_AT = SNATCHBLOCK_TANK + 12,
        TOWARD_AT = SNATCHBLOCK_TANK + 13, DRAWN_AT = SNATCHBLOCK_TANK + 21, OPEN_AT = SNATCHBLOCK_TANK + 29,
-       LIMIT_AT = SNATCHBLOCK_SETTINGS + 16 };
+       LIMIT_AT = SNATCHBLOCK_SETTINGS + 16, PLAIN_AT = SNATCHBLOCK_PLAIN };
 #define RUN_MOST (UINT64_C(65535) * SB2_MS_PER_HOUR)
 
 static uint32_t number_at(size_t at, size_t bytes)
@@ -376,6 +381,17 @@ static size_t room_size(size_t least)
     }
 }
 
+/* A room for broadcasts: mostly what the pack's choice asks for, else about both borders, or any. */
+static size_t sample_room(void)
+{
+    switch (below(20)) {
+    case 0: case 1: return SB2_PLAIN_ROOM - 2 + below(8);
+    case 2: return below(ROOM_MOST + 1);
+    case 3: return below(SB2_BROADCAST_ROOM);
+    default: return state_area[PLAIN_AT] == 1 && one_in(2) ? SB2_PLAIN_ROOM : SB2_BROADCAST_ROOM;
+    }
+}
+
 /* Keeps the area that both left. */
 static void keep_area(void)
 {
@@ -391,7 +407,7 @@ static struct sb2_set_up some_set_up(bool likely)
         .design_voltage = some_word(), .max_error = some_word(), .cycle_count = some_word(),
         .manufacture_date = some_word(), .serial_number = some_word(), .charging_current = some_word(),
         .charging_voltage = some_word(), .temperature_limit = some_word(), .discharge_limit = some_word(),
-        .first = {some_word(), some_current(), some_word(), (uint32_t)draw()}};
+        .plain = one_in(2), .first = {some_word(), some_current(), some_word(), (uint32_t)draw()}};
     if (likely) {
         in.design_capacity |= 1;
         in.full_capacity |= 1;
@@ -411,16 +427,19 @@ static void play_given_set_up(struct sb2_set_up in, size_t length)
     note(in.design_capacity), note(in.full_capacity), note(in.remaining_capacity), note(in.design_voltage);
     note(in.max_error), note(in.cycle_count), note(in.manufacture_date), note(in.serial_number);
     note(in.charging_current), note(in.charging_voltage), note(in.temperature_limit), note(in.discharge_limit);
-    note(in.first.voltage), note((uint16_t)in.first.current), note(in.first.temperature), note(in.first.counter);
+    note(in.plain), note(in.first.voltage), note((uint16_t)in.first.current), note(in.first.temperature);
+    note(in.first.counter);
     uint32_t proved = snatchblock_set_up(area.p, length, in.design_capacity, in.full_capacity, in.remaining_capacity,
                                          in.design_voltage, in.max_error, in.cycle_count, in.manufacture_date,
                                          in.serial_number, in.charging_current, in.charging_voltage,
-                                         in.temperature_limit, in.discharge_limit, in.first.voltage, in.first.current,
-                                         in.first.temperature, in.first.counter);
+                                         in.temperature_limit, in.discharge_limit, in.plain, in.first.voltage,
+                                         in.first.current, in.first.temperature, in.first.counter);
     uint32_t second = (uint32_t)sb2_area_set_up(area.s, length, &in);
     compare(proved, second);
     came_up(SET_UP, second);
     since_full = 0;
+    if (second != SB2_NOT_SOUND)
+        other[SET_UP_OF + 2 * (second != SB2_SERVED) + in.plain]++;
     if (second == SB2_SERVED)
         other[RUN_OPENS + (in.remaining_capacity == in.full_capacity)]++;
     keep_area();
@@ -466,10 +485,11 @@ static void note_bit_4(bool was_set)
     other[(was_set ? BIT_4_WAS_SET : BIT_4_WAS_CLEAR) + rule]++;
 }
 
-/* Which messages a served sample sent. */
+/* How many messages a served sample sent, and which. */
 static void note_messages(size_t length, uint32_t before, uint32_t after, bool held)
 {
-    other[MESSAGES_0 + length / 4]++;
+    bool plain = area.s[PLAIN_AT] == 1;
+    other[MESSAGES + 5u * plain + length / (plain ? 4 : 5)]++;
     if (after < before)
         other[COUNTER_WRAPPED]++;
     if (held && area.s[SNATCHBLOCK_HOST + 8] == 0)
@@ -478,6 +498,20 @@ static void note_messages(size_t length, uint32_t before, uint32_t after, bool h
         for (unsigned bit = 0; bit < 16; bit++)
             if ((room.s[2] | room.s[3] << 8) & 1 << bit)
                 other[ALARM_BIT + bit]++;
+}
+
+/* The room of a sample that was served or refused for it; and where the area was refused before the room was. */
+static void note_room(int answer, size_t length)
+{
+    bool plain = state_area[PLAIN_AT] == 1;
+    if (answer != SB2_NOT_SOUND && room.length <= 21)
+        other[ROOM_OF + 22u * plain + room.length]++;
+    if (answer != SB2_NOT_SOUND || length != SNATCHBLOCK_AREA || state_area[PLAIN_AT] > 1)
+        return;
+    if (room.length < SB2_PLAIN_ROOM)
+        other[BEFORE_2 + 2 * plain]++;
+    else if (room.length < SB2_BROADCAST_ROOM && !plain)
+        other[BEFORE_2 + 1]++;
 }
 
 /* How many seconds a served sample completed, and how many are kept now. */
@@ -579,6 +613,8 @@ static bool play_given_sample(struct sb2_sample sample, size_t length, size_t ro
     compare(proved, (uint32_t)answer | (uint32_t)sent << 8);
     came_up(SAMPLE, (uint32_t)answer);
     note_old(length, 1);
+    note_room(answer, length);
+    sent_bytes = sent;
     if (answer == SB2_SERVED) {
         note_messages(sent, before, sample.counter, held);
         note_bit_4(state_area[BIT_4_AT] == 1);
@@ -589,7 +625,7 @@ static bool play_given_sample(struct sb2_sample sample, size_t length, size_t ro
     return answer == SB2_SERVED;
 }
 
-static void play_sample(bool whole)
+static struct sb2_sample some_sample(void)
 {
     struct sb2_state state;
     struct sb2_sample sample = {some_word(), some_current(), some_word(), 0};
@@ -602,7 +638,12 @@ static void play_sample(bool whole)
         }
     }
     sample.counter = before + some_elapsed();
-    (void)play_given_sample(sample, whole ? SNATCHBLOCK_AREA : area_size(), room_size(SB2_BROADCAST_ROOM));
+    return sample;
+}
+
+static void play_sample(bool whole)
+{
+    (void)play_given_sample(some_sample(), whole ? SNATCHBLOCK_AREA : area_size(), sample_room());
 }
 
 static uint8_t some_command(void)
@@ -857,7 +898,7 @@ static void bend_area(void)
 {
     uint64_t full = (uint64_t)number_at(FULL_AT, 2) * SB2_MS_PER_HOUR;
     uint64_t one_cycle = (uint64_t)number_at(SNATCHBLOCK_SETTINGS, 2) * SB2_MS_PER_HOUR;
-    switch (below(20)) {
+    switch (below(21)) {
     case 0: put(0, 1, 5 + below(5)); break;
     case 1: put(SNATCHBLOCK_HOST + 8, 1, below(3)); break;
     case 2: put(SNATCHBLOCK_HOST + 9, 1, below(3)); break;
@@ -877,6 +918,7 @@ static void bend_area(void)
     case 16: put(TOWARD_AT, 8, one_cycle - 1 + below(3)); break;
     case 17: put(DRAWN_AT, 8, one_in(2) ? below(2) : RUN_MOST - 1 + below(3)); break;
     case 18: put(OPEN_AT, 1, below(3)); break;
+    case 19: put(PLAIN_AT, 1, below(3)); break;
     default: state_area[below(SNATCHBLOCK_AREA)] = (uint8_t)draw(); break;
     }
 }
@@ -937,7 +979,7 @@ static void play_parts(void)
     other[CARRIES + 2 * (lowest > 0xFFFF) + (next > 0xFFFF)]++;
     uint32_t elapsed = (uint32_t)(border_part(below(PART_BORDERS)) | border_part(below(PART_BORDERS)) << 16);
     struct sb2_sample sample = {some_word(), some_current(), some_word(), number_at(SNATCHBLOCK_LATEST + 6, 4) + elapsed};
-    (void)play_given_sample(sample, SNATCHBLOCK_AREA, 16);
+    (void)play_given_sample(sample, SNATCHBLOCK_AREA, SB2_BROADCAST_ROOM);
 }
 
 /* Reads the times at the slowest rates, AtRate, current and mean 1 or -1, the mean with a second kept and with none. */
@@ -1128,7 +1170,7 @@ static void play_run(enum run run, uint32_t samples)
         if (one_in(stay))
             sample.current = run_current();
         sample.counter = number_at(SNATCHBLOCK_LATEST + 6, 4) + run_step(run);
-        if (play_given_sample(sample, SNATCHBLOCK_AREA, one_in(40) ? room_size(SB2_BROADCAST_ROOM) : SB2_BROADCAST_ROOM))
+        if (play_given_sample(sample, SNATCHBLOCK_AREA, one_in(40) ? sample_room() : SB2_BROADCAST_ROOM))
             other[RUN_OF + run]++;
         for (size_t j = 0; j < 4; j++) {
             const uint8_t ask[3] = {0x16, commands[j], 0x17};
@@ -1299,6 +1341,70 @@ static void play_learning(void)
     play_bent_tanks();
     if (one_in(4))
         play_long_discharge();
+}
+
+/* ---- broadcasts with PEC and in plain */
+
+/* A message of a broadcast as it went, then with one to three of its bits altered: these are never right. */
+static void play_altered(const uint8_t message[5])
+{
+    for (uint32_t bits = 0; bits <= 3; bits++) {
+        uint8_t altered[5];
+        bool accepted = false;
+        memcpy(altered, message, 5);
+        for (uint32_t left = bits; left > 0;) {
+            uint32_t place = below(40);
+            uint8_t mask = (uint8_t)(1u << place % 8);
+            if ((altered[place / 8] ^ message[place / 8]) & mask)
+                continue; /* altered already */
+            altered[place / 8] ^= mask;
+            left--;
+        }
+        struct sb2_bytes exchange = lend(0, altered, 5);
+        begin("exchange_check", 1, NO_AREA, false);
+        int answer = sb2_check_exchange(exchange, &accepted);
+        compare(snatchblock_exchange_check(exchange.at, 5), (uint32_t)answer | (uint32_t)accepted << 8);
+        compare(accepted, bits == 0);
+        came_up(EXCHANGE, (uint32_t)answer);
+        other[ALTERED + bits]++;
+    }
+}
+
+/* One state and one sample in one room of 15 to 21 bytes, with PEC and then in plain. */
+static void play_choice(void)
+{
+    uint8_t kept[SNATCHBLOCK_AREA], messages[SB2_BROADCAST_ROOM];
+    struct sb2_sample sample = some_sample();
+    size_t room_length = SB2_PLAIN_ROOM - 1 + below(7);
+    if (one_in(2))
+        sample.counter = number_at(SNATCHBLOCK_LATEST + 6, 4) + 30000; /* all that can be due is */
+    memcpy(kept, state_area, sizeof kept);
+    put(PLAIN_AT, 1, 0);
+    bool served = play_given_sample(sample, SNATCHBLOCK_AREA, room_length);
+    size_t with_pec = sent_bytes;
+    memcpy(messages, room.s, with_pec);
+    memcpy(state_area, kept, sizeof kept);
+    put(PLAIN_AT, 1, 1);
+    other[ONE_ROOM + room_length - (SB2_PLAIN_ROOM - 1)]++;
+    if (play_given_sample(sample, SNATCHBLOCK_AREA, room_length))
+        other[(served ? DUE_SERVED : DUE_REFUSED) + sent_bytes / 4]++;
+    for (size_t at = 0; at < with_pec; at += 5)
+        play_altered(messages + at);
+}
+
+static void play_choices(void)
+{
+    for (int packs = 0; packs < 10; packs++) {
+        play_set_up(true);
+        for (uint32_t left = 1 + below(3); left > 0; left--)
+            play_choice();
+    }
+    const uint32_t flags[4] = {0, 1, 2, 3 + below(253)};
+    for (size_t i = 0; i < 4; i++) {
+        put(PLAIN_AT, 1, flags[i]);
+        play_bent_area(0x16);
+        other[PLAIN_FLAG + i]++;
+    }
 }
 
 /* ---- check bytes */
@@ -1816,7 +1922,8 @@ static void play_shelf(void)
 
 static void play(void)
 {
-    switch (below(14)) {
+    switch (below(15)) {
+    case 14: play_choices(); break;
     case 13: case 12: play_learning(); break;
     case 11: play_minutes(); break;
     case 0: case 1: case 2: play_life(); break;
@@ -1896,11 +2003,10 @@ static bool tally(void)
         {"6 to 0 clear", STATUS_CLEAR, STATUS_CLEAR + 6},
         {"bit 4 clear: a sample to charge 0, to under 20 %, else", BIT_4_WAS_CLEAR, BIT_4_WAS_CLEAR + 2},
         {"bit 4 set: the same", BIT_4_WAS_SET, BIT_4_WAS_SET + 2},
-        {"samples with no message", MESSAGES_0, MESSAGES_0},
-        {"with one", MESSAGES_1, MESSAGES_1},
-        {"with two", MESSAGES_2, MESSAGES_2},
-        {"with three", MESSAGES_3, MESSAGES_3},
-        {"with four", MESSAGES_4, MESSAGES_4},
+        {"samples with PEC and no message", MESSAGES, MESSAGES},
+        {"with one to four", MESSAGES + 1, MESSAGES + 4},
+        {"in plain with no message", MESSAGES + 5, MESSAGES + 5},
+        {"with one to four", MESSAGES + 6, MESSAGES + 9},
         {"alarm bits 8 and 9", ALARM_BIT + 8, ALARM_BIT + 9},
         {"alarm bits 11 and 12", ALARM_BIT + 11, ALARM_BIT + 12},
         {"alarm bit 14", ALARM_BIT + 14, ALARM_BIT + 14},
@@ -1940,6 +2046,7 @@ static bool tally(void)
         {"and in each place beyond it", MINUTE_OVER, MINUTE_OVER + 5 * 60 - 1},
         {"areas of version 1: sound, sample, transact", AREA_OF_OLD, AREA_OF_OLD + 2},
         {"areas of version 2: the same", AREA_OF_OLD + 3, AREA_OF_OLD + 5},
+        {"areas of version 3: the same", AREA_OF_OLD + 6, AREA_OF_OLD + 8},
         {"charges of 16-bit parts 0, 1, 32,768, 65,535, any", PARTS_OF, PARTS_OF + 24},
         {"carries of no part, the middle, the lowest, both", CARRIES, CARRIES + 3},
         {"samples of 0, 1, 2 to 999, more cycles", CYCLES_OF, CYCLES_OF + 3},
@@ -1964,6 +2071,18 @@ static bool tally(void)
         {"a run of 65,535 mAh less 1, all, 1 more, any", TANK_OPEN, TANK_OPEN + 3},
         {"with none open 0, 1, 65,535 mAh, any", TANK_CLOSED, TANK_CLOSED + 3},
         {"flags of bit 4 and of the run: 0, 1, 2, others", TANK_FLAG, TANK_FLAG + 7},
+        {"set-ups with PEC and in plain, served and 11", SET_UP_OF, SET_UP_OF + 3},
+        {"with PEC: 2 in rooms of 0 to 15 bytes", ROOM_OF, ROOM_OF + 15},
+        {"2 in 16 to 19", ROOM_OF + 16, ROOM_OF + 19},
+        {"served in 20 and 21", ROOM_OF + 20, ROOM_OF + 21},
+        {"in plain: 2 in rooms of 0 to 15 bytes", ROOM_OF + 22, ROOM_OF + 22 + 15},
+        {"served in 16 to 21", ROOM_OF + 22 + 16, ROOM_OF + 22 + 21},
+        {"1 before 2: PEC under 16, 16 to 19, plain under 16", BEFORE_2, BEFORE_2 + 2},
+        {"one sample in either choice, rooms of 15 to 21", ONE_ROOM, ONE_ROOM + 6},
+        {"2 with PEC, in plain none to four messages", DUE_REFUSED, DUE_REFUSED + 4},
+        {"served in both, none to four messages", DUE_SERVED, DUE_SERVED + 4},
+        {"messages right; 1, 2, 3 bits altered: wrong", ALTERED, ALTERED + 3},
+        {"flags of plain: 0, 1, 2, others", PLAIN_FLAG, PLAIN_FLAG + 3},
     };
     for (size_t i = 0; i < sizeof lines / sizeof *lines; i++)
         all = count_other(lines[i].name, lines[i].first, lines[i].last) && all;

@@ -1,5 +1,6 @@
 /* The functions of snatchblock.h that the firmware's example calls, by the second program: the example linked with this
- * in place of the proved library has its lines from another origin. */
+ * in place of the proved library has its lines from another origin. With DAMAGE one bit of a sample's last broadcast is
+ * altered. */
 #include "snatchblock.h"
 #include "../../second/snatchblock2.h"
 
@@ -17,7 +18,7 @@ static uint32_t packed(int answer, size_t above)
 uint32_t snatchblock_set_up(uint8_t *area, size_t area_length, uint16_t DesignCapacity, uint16_t full,
                             uint16_t remaining, uint16_t DesignVoltage, uint16_t MaxError, uint16_t CycleCount,
                             uint16_t ManufactureDate, uint16_t SerialNumber, uint16_t ChargingCurrent,
-                            uint16_t ChargingVoltage, uint16_t TemperatureLimit, uint16_t DischargeLimit,
+                            uint16_t ChargingVoltage, uint16_t TemperatureLimit, uint16_t DischargeLimit, bool plain,
                             uint16_t voltage, int16_t current, uint16_t temperature, uint32_t counter)
 {
     const struct sb2_set_up in = {
@@ -25,6 +26,7 @@ uint32_t snatchblock_set_up(uint8_t *area, size_t area_length, uint16_t DesignCa
         .design_voltage = DesignVoltage, .max_error = MaxError, .cycle_count = CycleCount,
         .manufacture_date = ManufactureDate, .serial_number = SerialNumber, .charging_current = ChargingCurrent,
         .charging_voltage = ChargingVoltage, .temperature_limit = TemperatureLimit, .discharge_limit = DischargeLimit,
+        .plain = plain,
         .first = {.voltage = voltage, .current = current, .temperature = temperature, .counter = counter}};
     return packed(sb2_area_set_up(area, area_length, &in), 0);
 }
@@ -40,6 +42,10 @@ uint32_t snatchblock_sample(uint8_t *area, size_t area_length, uint16_t voltage,
     const struct sb2_sample sample = {.voltage = voltage, .current = current, .temperature = temperature, .counter = counter};
     size_t length = 0;
     int answer = sb2_area_take_sample(area, area_length, &sample, room, room_length, &length);
+#ifdef DAMAGE
+    if (length > 0)
+        room[length - 1] ^= 0x20;
+#endif
     return packed(answer, length);
 }
 

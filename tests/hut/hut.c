@@ -81,6 +81,7 @@ int main(void)
         .design_capacity = 2000, .full_capacity = 2000, .remaining_capacity = 1995, .design_voltage = 14800,
         .max_error = 2, .cycle_count = 7, .manufacture_date = sb2_pack_date(2021, 3, 15), .serial_number = 17,
         .charging_current = 1800, .charging_voltage = 16800, .temperature_limit = 3182, .discharge_limit = 11000,
+        .plain = true, /* the hut doesn't understand PEC */
         .first = {16000, 0, 2981, reading(0)},
     };
     struct sb2_state pack;

@@ -12,7 +12,7 @@ int main(void)
     const uint8_t ask[] = {0x16, 0x09, 0x17};
 
     uint32_t made = snatchblock_set_up(area, sizeof area, 4000, 4000, 2000, 14800, 2, 7, 0x526F, 17, 2000, 16800, 3182, 11000,
-                                       14800, -1500, 2981, 0);
+                                       false, 14800, -1500, 2981, 0);
     uint32_t read = snatchblock_transact(area, sizeof area, no_names, sizeof no_names, no_names, sizeof no_names, true, ask,
                                          sizeof ask, room, sizeof room);
     /* two bytes of data and one of PEC, after the three that asked */

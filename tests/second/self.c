@@ -1,7 +1,7 @@
 /* Holds the second program to published facts: document 01's worked examples
  * and tables, both packets of source document 001, the check word of CRC-8 and
  * the values that 002 works out. Then to properties that document 01 states, and
- * to figures worked by hand from the words of requests R-1, R-2 and R-4. */
+ * to figures worked by hand from the words of requests R-1, R-2, R-4 and R-5. */
 #include "../../second/snatchblock2.h"
 
 #include <stdio.h>
@@ -43,6 +43,13 @@ static const struct sb2_set_up usual = {.design_capacity = 4000,
                                         .remaining_capacity = 2000,
                                         .design_voltage = 14800,
                                         .first = {.voltage = 14800}};
+
+/* The same pack for hearers that don't understand PEC. */
+static struct sb2_set_up in_plain(struct sb2_set_up in)
+{
+    in.plain = true;
+    return in;
+}
 
 static struct sb2_state made(struct sb2_set_up in)
 {
@@ -106,16 +113,16 @@ static size_t sample(struct sb2_state *state, uint16_t voltage, int16_t current,
 {
     struct sb2_sample taken = {voltage, current, temperature, counter};
     uint8_t room[SB2_BROADCAST_ROOM];
-    size_t length;
+    size_t length, each = state->settings.plain ? 4 : 5;
     memset(room, 0xA5, sizeof room);
     CHECK(sb2_take_sample(state, &taken, room, sizeof room, &length), 0);
-    CHECK(length % 4, 0);
+    CHECK(length % each, 0);
     for (size_t i = length; i < sizeof room; i++)
         CHECK(room[i], 0xA5);
     CHECK(sb2_sound(state), true);
     if (sent)
         memcpy(sent, room, sizeof room);
-    return length / 4;
+    return length / each;
 }
 
 /* ---- document 01's twelve */
@@ -638,10 +645,10 @@ static void clock_and_broadcasts(void)
     uint8_t sent[SB2_BROADCAST_ROOM];
     uint8_t room[SB2_BROADCAST_ROOM];
     size_t length;
-    struct sb2_set_up in = usual;
+    struct sb2_set_up in = in_plain(usual);
     struct sb2_state s;
 
-    s = made(usual);
+    s = made(in);
     struct sb2_sample one = {14800, 0, 0, 1000};
     struct sb2_state before = s;
     CHECK(sb2_take_sample(&s, &one, room, 15, &length), 2);
@@ -669,7 +676,7 @@ static void clock_and_broadcasts(void)
     CHECK(sample(&s, 14800, 0, 0, 4294967290u + 230001u, sent), 2);
 
     /* an alarm at once, then each 10,000 ms; the code in the word is all ones */
-    in = usual;
+    in = in_plain(usual);
     in.remaining_capacity = 399;
     s = made(in);
     CHECK(sample(&s, 14800, 0, 0, 0, sent), 1);
@@ -694,7 +701,7 @@ static void clock_and_broadcasts(void)
     CHECK(sample(&s, 14800, 0, 0, 110000, sent), 1);
 
     /* each alarm bit alone: 11 and 8 for the host, 12 for the charger too; none without a bit */
-    in = usual;
+    in = in_plain(usual);
     in.first.current = -1;
     in.discharge_limit = 14801;
     s = made(in);
@@ -844,14 +851,19 @@ static void the_mechanic(void)
 /* ---- request R-4 */
 
 /* A pack of 100 mAh, 360,000,000 mA·ms, that is empty from 12,000 mV down; so many mAh are left. */
-static struct sb2_state hundred(uint16_t left, uint16_t cycles)
+static struct sb2_set_up of_hundred(uint16_t left, uint16_t cycles)
 {
     struct sb2_set_up in = usual;
     in.design_capacity = in.full_capacity = 100;
     in.remaining_capacity = left;
     in.cycle_count = cycles;
     in.discharge_limit = 12000;
-    return made(in);
+    return in;
+}
+
+static struct sb2_state hundred(uint16_t left, uint16_t cycles)
+{
+    return made(of_hundred(left, cycles));
 }
 
 /* A current that counted for so many ms, measured just below the limit. */
@@ -996,7 +1008,7 @@ static void runs_open_and_end(void)
 static void run_closes(void)
 {
     uint8_t sent[SB2_BROADCAST_ROOM];
-    struct sb2_state s = hundred(100, 3);
+    struct sb2_state s = made(in_plain(of_hundred(100, 3)));
     CHECK(put(&s, 0x01, 33), 0);
     run(&s, -1000, 36000);
     sample(&s, 12000, -1000, 0, 72000, NULL); /* at the limit isn't below it */
@@ -1128,6 +1140,117 @@ static void learned_above_design(void)
     run(&s, 32767, 4294967295u);
     CHECK(word(&s, 0x0E), 65535);
     CHECK(word(&s, 0x0D), 100);
+}
+
+/* ---- request R-5 */
+
+/* What a sample sends, in room of 20 bytes with more behind it. */
+static void sends_at(int line, struct sb2_state *state, struct sb2_sample taken, struct sb2_bytes wanted)
+{
+    uint8_t room[SB2_BROADCAST_ROOM + 4];
+    size_t length;
+    memset(room, 0xA5, sizeof room);
+    check_at(line, "answer", sb2_take_sample(state, &taken, room, SB2_BROADCAST_ROOM, &length), 0);
+    check_at(line, "length", (long long)length, (long long)wanted.length);
+    check_at(line, "bytes", memcmp(room, wanted.at, wanted.length), 0);
+    for (size_t i = length; i < sizeof room; i++)
+        check_at(line, "behind them", room[i], 0xA5);
+}
+#define SENDS(current, temperature, counter, ...) \
+    sends_at(__LINE__, &s, (struct sb2_sample){14800, current, temperature, counter}, BYTES(__VA_ARGS__))
+
+/* 399 mAh are below RemainingCapacityAlarm; any temperature above 0 is hot. */
+static struct sb2_set_up alarming(void)
+{
+    struct sb2_set_up in = usual;
+    in.remaining_capacity = 399;
+    in.charging_current = 0x1234;
+    in.charging_voltage = 0x5678;
+    return in;
+}
+
+/* One to four messages. The PECs are of a long division done elsewhere, bit by bit, over each message's four bytes. */
+static void messages_with_pec(void)
+{
+    struct sb2_state s = made(alarming());
+    SENDS(0, 0, 0, 0x10, 0x16, 0xCF, 0x02, 0x98);
+    CHECK(sample(&s, 14800, 0, 0, 9999, NULL), 0);
+    SENDS(0, 0, 10000, 0x10, 0x16, 0xCF, 0x02, 0x98);
+    SENDS(0, 1, 20000, 0x10, 0x16, 0xCF, 0x12, 0xE8, 0x12, 0x16, 0xCF, 0x12, 0xC4);
+    SENDS(0, 0, 30000, 0x10, 0x16, 0xCF, 0x02, 0x98, 0x12, 0x14, 0x34, 0x12, 0x91, 0x12, 0x15, 0x78, 0x56, 0x86);
+    SENDS(1, 1, 60000, 0x10, 0x16, 0x8F, 0x52, 0x74, 0x12, 0x16, 0x8F, 0x52, 0x58, 0x12, 0x14, 0x00, 0x00, 0x42, 0x12,
+          0x15, 0x78, 0x56, 0x86);
+    CHECK(put(&s, 0x03, 0x2000), 0); /* the charger's words alone */
+    SENDS(0, 1, 90000, 0x12, 0x14, 0x34, 0x12, 0x91, 0x12, 0x15, 0x78, 0x56, 0x86);
+}
+
+/* The same messages at the same times. */
+static void messages_in_plain(void)
+{
+    struct sb2_state s = made(in_plain(alarming()));
+    SENDS(0, 0, 0, 0x10, 0x16, 0xCF, 0x02);
+    CHECK(sample(&s, 14800, 0, 0, 9999, NULL), 0);
+    SENDS(0, 0, 10000, 0x10, 0x16, 0xCF, 0x02);
+    SENDS(0, 1, 20000, 0x10, 0x16, 0xCF, 0x12, 0x12, 0x16, 0xCF, 0x12);
+    SENDS(0, 0, 30000, 0x10, 0x16, 0xCF, 0x02, 0x12, 0x14, 0x34, 0x12, 0x12, 0x15, 0x78, 0x56);
+    SENDS(1, 1, 60000, 0x10, 0x16, 0x8F, 0x52, 0x12, 0x16, 0x8F, 0x52, 0x12, 0x14, 0x00, 0x00, 0x12, 0x15, 0x78, 0x56);
+    CHECK(put(&s, 0x03, 0x2000), 0);
+    SENDS(0, 1, 90000, 0x12, 0x14, 0x34, 0x12, 0x12, 0x15, 0x78, 0x56);
+}
+
+/* Four messages due, in every room: 2 under 20 bytes, in plain under 16, and 1 before it. */
+static void rooms_for_messages(void)
+{
+    static const uint8_t four[20] = {0x10, 0x16, 0x8F, 0x52, 0x74, 0x12, 0x16, 0x8F, 0x52, 0x58,
+                                     0x12, 0x14, 0x00, 0x00, 0x42, 0x12, 0x15, 0x78, 0x56, 0x86};
+    static const uint8_t four_in_plain[16] = {0x10, 0x16, 0x8F, 0x52, 0x12, 0x16, 0x8F, 0x52,
+                                              0x12, 0x14, 0x00, 0x00, 0x12, 0x15, 0x78, 0x56};
+    const struct sb2_sample hot = {14800, 1, 1, 30000};
+    for (unsigned plain = 0; plain < 2; plain++)
+        for (size_t room_length = 0; room_length <= 24; room_length++) {
+            struct sb2_state s = made(plain ? in_plain(alarming()) : alarming()), before = s, broken = s;
+            const size_t least = plain ? 16 : 20, sent = room_length < least ? 0 : least;
+            uint8_t room[32];
+            size_t length;
+            memset(room, 0xA5, sizeof room);
+            broken.error_code = 8;
+            CHECK(sb2_take_sample(&broken, &hot, room, room_length, &length), 1);
+            CHECK(length, 0);
+            CHECK(room[0], 0xA5);
+            CHECK(sb2_take_sample(&s, &hot, room, room_length, &length), room_length < least ? 2 : 0);
+            CHECK(length, sent);
+            CHECK(memcmp(room, plain ? four_in_plain : four, sent), 0);
+            for (size_t i = sent; i < sizeof room; i++)
+                CHECK(room[i], 0xA5);
+            CHECK(sb2_same(&before, &s), room_length < least);
+        }
+}
+
+/* No message with one to three bits turned is right; turned as x^8 + x^2 + x + 1 has them, four, it is. */
+static void turned_messages(void)
+{
+    static const uint8_t messages[2][5] = {{0x10, 0x16, 0xCF, 0x02, 0x98}, {0x12, 0x15, 0x78, 0x56, 0x86}};
+    unsigned right = 0, tried = 0;
+    bool accepted;
+    for (unsigned n = 0; n < 2 * 40 * 40 * 40; n++) {
+        unsigned i = n % 40, j = n / 40 % 40, k = n / 1600 % 40;
+        uint8_t turned[5];
+        if (j < i || k < j || (i == j && j < k)) /* i = j = k turns one bit, j = k two */
+            continue;
+        memcpy(turned, messages[n / 64000], 5);
+        turned[i / 8] ^= (uint8_t)(1u << i % 8);
+        if (j != i)
+            turned[j / 8] ^= (uint8_t)(1u << j % 8);
+        if (k != j)
+            turned[k / 8] ^= (uint8_t)(1u << k % 8);
+        CHECK(sb2_check_exchange(bytes(turned, 5), &accepted), 0);
+        right += accepted;
+        tried++;
+    }
+    CHECK(tried, 2 * (40 + 780 + 9880));
+    CHECK(right, 0);
+    CHECK(sb2_check_exchange(BYTES(0x10, 0x16, 0xCF, 0x02 ^ 0x01, 0x98 ^ 0x07), &accepted), 0);
+    CHECK(accepted, true);
 }
 
 /* ---- document 01, sheets, captures and keys */
@@ -1420,6 +1543,48 @@ static int64_t by_history(const struct taken *history, size_t newest)
     return drawn;
 }
 
+/* The messages of one sample from two packs, in plain and with PEC: the same four bytes, then a right fifth. */
+static bool same_messages(const uint8_t *plain, size_t plain_length, const uint8_t *with_pec, size_t length)
+{
+    bool same = plain_length % 4 == 0 && length == plain_length / 4 * 5, accepted = false;
+    for (size_t i = 0; same && i < plain_length / 4; i++) {
+        same = memcmp(plain + 4 * i, with_pec + 5 * i, 4) == 0;
+        same = same && sb2_check_exchange(bytes(with_pec + 5 * i, 5), &accepted) == 0 && accepted;
+    }
+    return same;
+}
+
+/* Two packs of one set-up but for the choice, with one history: they differ in it alone. */
+static void either_choice(void)
+{
+    unsigned wrong = 0, sent[5] = {0};
+    for (unsigned round = 0; round < 2000; round++) {
+        struct sb2_set_up in = alarming();
+        in.discharge_limit = draw_word();
+        in.temperature_limit = draw_word();
+        in.first = draw_sample(draw());
+        struct sb2_state s = made(in), plain = made(in_plain(in));
+        for (unsigned call = 0; call < 50; call++) {
+            struct sb2_sample taken = draw_sample(s.latest.counter);
+            uint8_t rooms[2][SB2_REPLY_ROOM];
+            uint8_t mode[4] = {0x16, (uint8_t)(draw() % 6), (uint8_t)draw(), (uint8_t)draw()};
+            size_t lengths[2];
+            wrong += sb2_take_sample(&s, &taken, rooms[0], SB2_BROADCAST_ROOM, &lengths[0]) != 0;
+            wrong += sb2_take_sample(&plain, &taken, rooms[1], SB2_BROADCAST_ROOM, &lengths[1]) != 0;
+            wrong += !same_messages(rooms[1], lengths[1], rooms[0], lengths[0]);
+            sent[lengths[0] / 5]++;
+            if (draw() % 4 == 0)
+                wrong += answer_of(&s, false, bytes(mode, 4)) != answer_of(&plain, false, bytes(mode, 4));
+        }
+        wrong += sb2_same(&s, &plain);
+        plain.settings.plain = false;
+        wrong += !sb2_same(&s, &plain);
+    }
+    CHECK(wrong, 0);
+    for (unsigned messages = 0; messages <= 4; messages++)
+        CHECK(sent[messages] > 100, true);
+}
+
 static void runs_by_history(void)
 {
     enum { SAMPLES = 200 };
@@ -1476,7 +1641,7 @@ static void long_work(void)
                                 .remaining_capacity = draw_word(), .design_voltage = draw_word(),
                                 .charging_current = draw_word(), .charging_voltage = draw_word(),
                                 .temperature_limit = draw_word(), .discharge_limit = draw_word(),
-                                .first = draw_sample(draw())};
+                                .plain = draw() % 2, .first = draw_sample(draw())};
         int answer = sb2_set_up(&s, &in);
         answers[answer]++;
         broken += sb2_sound(&s) != (answer == 0);
@@ -1506,6 +1671,7 @@ static void long_work(void)
                 struct sb2_sample taken = draw_sample(s.latest.counter);
                 size_t room_length = draw() % 8 ? 16 + draw() % 20 : draw() % 16;
                 answer = sb2_take_sample(&s, &taken, room, room_length, &length);
+                broken += sound && (answer == 2) != (room_length < (s.settings.plain ? 16u : 20u));
                 broken += s.error_code != before.error_code;
             } else {
                 uint8_t message[SB2_MESSAGE_MOST];
@@ -1516,7 +1682,7 @@ static void long_work(void)
                 if (count > 0 && draw() % 8)
                     message[0] = 0x16;
                 if (count > 1 && draw() % 8)
-                    message[1] = read ? draw() % 0x24 : draw() % 6;
+                    message[1] = (uint8_t)(read ? draw() % 0x24 : draw() % 6);
                 if (read && draw() % 8)
                     message[2] = 0x17;
                 if (count == 5 && draw() % 2)
@@ -1570,12 +1736,12 @@ static void areas(void)
     CHECK(area[SB2_TIMERS_AT + 4] | area[SB2_TIMERS_AT + 5] << 8, 10000);
     for (size_t i = SB2_RECENT_AT; i < SB2_AREA; i++)
         CHECK(area[i], 0); /* no second, none begun */
-    CHECK(SB2_AREA, 329);
+    CHECK(SB2_AREA, 330);
     for (size_t size = 0; size <= sizeof area; size++)
         CHECK(sb2_area_load(bytes(area, size), &back), size == SB2_AREA);
-    static const size_t flags[] = {SB2_HOST_AT + 8, SB2_HOST_AT + 9, SB2_HOST_AT + 10, SB2_TANK_AT + 12,
-                                   SB2_TANK_AT + 29};
-    for (size_t i = 0; i < 5; i++) {
+    static const size_t flags[] = {SB2_SETTINGS_AT + 18, SB2_HOST_AT + 8, SB2_HOST_AT + 9, SB2_HOST_AT + 10,
+                                   SB2_TANK_AT + 12, SB2_TANK_AT + 29};
+    for (size_t i = 0; i < 6; i++) {
         uint8_t kept = area[flags[i]];
         area[flags[i]] = 2;
         CHECK(sb2_area_sound(bytes(area, SB2_AREA)), false);
@@ -1585,6 +1751,38 @@ static void areas(void)
     in.full_capacity = 0;
     CHECK(sb2_area_set_up(again, SB2_AREA, &in), 11);
     CHECK(memcmp(area, again, SB2_AREA), 0);
+}
+
+/* The choice's byte: 0, or 1 in plain, behind the settings' words; over 1 the bytes are none, and stay. */
+static void choice_in_area(void)
+{
+    enum { PLAIN_AT = SB2_SETTINGS_AT + 18 };
+    uint8_t area[SB2_AREA], plain[SB2_AREA], kept[SB2_AREA], room[SB2_REPLY_ROOM];
+    const struct sb2_set_up in = alarming(), asked = in_plain(in);
+    const struct sb2_sample one = {14800, 0, 0, 1000};
+    struct sb2_state state;
+    size_t length;
+    CHECK(PLAIN_AT, 19);
+    CHECK(SB2_HOST_AT, 20);
+    CHECK(sb2_area_set_up(area, sizeof area, &in), 0);
+    CHECK(sb2_area_set_up(plain, sizeof plain, &asked), 0);
+    CHECK(area[PLAIN_AT], 0);
+    CHECK(plain[PLAIN_AT], 1);
+    CHECK(sb2_area_load(bytes(plain, sizeof plain), &state) && state.settings.plain, true);
+    plain[PLAIN_AT] = 0;
+    CHECK(memcmp(area, plain, sizeof area), 0);
+    CHECK(sb2_area_load(bytes(plain, sizeof plain), &state) && !state.settings.plain, true);
+    for (unsigned flag = 2; flag <= 255; flag++) {
+        area[PLAIN_AT] = (uint8_t)flag;
+        memcpy(kept, area, sizeof kept);
+        CHECK(sb2_area_sound(bytes(area, sizeof area)), false);
+        CHECK(sb2_area_take_sample(area, sizeof area, &one, room, sizeof room, &length), 1);
+        CHECK(memcmp(area, kept, sizeof area), 0);
+    }
+    area[PLAIN_AT] = 1; /* asked for later, as an old area goes on: the next alarm is in plain */
+    CHECK(sb2_area_take_sample(area, sizeof area, &one, room, 16, &length), 0);
+    CHECK(length, 4);
+    CHECK(area[PLAIN_AT], 1);
 }
 
 /* The bytes of the minute: two seconds, newest first, and 300 ms of a third; then places beyond the count move on. */
@@ -1630,7 +1828,7 @@ static void tank_in_area(void)
     run(&s, -1000, 36000);
     sb2_area_store(&s, area);
     CHECK(memcmp(area + SB2_TANK_AT, tank, sizeof tank), 0);
-    CHECK(SB2_TIMERS_AT, 70);
+    CHECK(SB2_TIMERS_AT, 71);
     s.tank.toward_cycle = UINT64_C(0x8877665544332211);
     s.tank.run_drawn = UINT64_C(0x1122334455667788);
     s.tank.run_open = false;
@@ -1814,15 +2012,21 @@ int main(void)
     learned_least();
     learned_most();
     learned_above_design();
+    messages_with_pec();
+    messages_in_plain();
+    rooms_for_messages();
+    turned_messages();
     sheets();
     captures();
     steps();
     keys();
     areas();
+    choice_in_area();
     minute_in_area();
     tank_in_area();
     shelf();
     minutes_by_sums();
+    either_choice();
     runs_by_history();
     long_work();
     printf("second: %u passed, %u failed\n", passed, failed);

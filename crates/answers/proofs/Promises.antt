@@ -75,9 +75,10 @@ set-up-lowest u first = answers {A = Started} (λ r. r .answer) (setUpRefused u)
 pub sample-lowest : SampleLowest
 unfolding sampleOf rising allAbove
 sample-lowest s sample room =
+    let small = ltb room (cond (s .pack .settings .plain) 16 20) in
     answers {A = Sampled} (λ r. r .answer) (not (soundOf s)) _ _
-    ∙ ap (cond (not (soundOf s)) 1) (answers {A = Sampled} (λ r. r .answer) (ltb room 16) _ _)
-    ∙ two 1 2 (not (soundOf s)) (ltb room 16) refl
+    ∙ ap (cond (not (soundOf s)) 1) (answers {A = Sampled} (λ r. r .answer) small _ _)
+    ∙ two 1 2 (not (soundOf s)) small refl
 
 pub load-lowest : LoadLowest
 unfolding loadedOf

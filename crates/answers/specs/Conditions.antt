@@ -1,7 +1,7 @@
 -- The conditions of document 01's table for each public function, in the table's order. (1 of an area, 2 and 14 of a capture's writer, and 2 and 4 of a shelf's table in bytes are ours: docs/DECISIONS.md.)
 -- Assumes nothing.
 use Prim.Native.Nat.{ℕ}
-use mathlib.Core.Bool.{Bool, true, false, _&&_, _||_, not}
+use mathlib.Core.Bool.{Bool, true, false, cond, _&&_, _||_, not}
 use mathlib.Core.List.{List, [], _∷_}
 use mathlib.Core.Option.{Option, none, some}
 use lib.Dec.{eqb, ltb}
@@ -87,9 +87,9 @@ transactConditions s service factory read bytes room =
 abbrev pub setUpConditions : Setup → List Condition
 setUpConditions u = (11 when (eqb (u .DesignCapacity) 0 || eqb (u .full) 0 || eqb (u .DesignVoltage) 0 || ltb (u .full) (u .remaining))) ∷ []
 
--- 1: state isn't sound; 2: broadcast room under 16 bytes (RULES 1.1, 1.2)
+-- 1: state isn't sound; 2: broadcast room under 20 bytes, under 16 in plain (RULES 1.1, 1.2)
 abbrev pub sampleConditions : State → ℕ → List Condition
-sampleConditions s room = (1 when not (soundOf s)) ∷ (2 when ltb room 16) ∷ []
+sampleConditions s room = (1 when not (soundOf s)) ∷ (2 when ltb room (cond (s .pack .settings .plain) 16 20)) ∷ []
 
 -- 1: bytes are no area (RULES 1.1)
 abbrev pub loadConditions : List ℕ → List Condition

@@ -1,7 +1,7 @@
 -- The parts together: laid at their places, read back, and read and stored again.
 -- Assumes nothing.
 use mathlib.Core.Path.{_≡_, refl, sym, ap, _∙_}
-use mathlib.Core.Bool.{true, _&&_, and-eq-true-iff}
+use mathlib.Core.Bool.{true, and-eq-true-iff}
 use mathlib.Core.List.{List, [], _++_, append-assoc, append-nil}
 use Prim.Native.Nat.{ℕ, _+_, _*_, _%_, _≤_, _<_}
 use native.Mathlib.Omega.{arith}
@@ -15,9 +15,9 @@ use Rattle.rooms.proofs.Rooms.{front}
 use Rattle.area.specs.Area.{settingsAt, hostAt, latestAt, tankAt, timersAt, recentAt, areaLength, areaOf, stateIn, isArea, loaded, loadedOf}
 use Rattle.pack.specs.Fits.{Fits}
 use Rattle.numbers.specs.Numbers.{numberBytes, bytesTaken}
-use Rattle.area_parts.specs.Parts.{settingsWidths, hostWidths, latestWidths, tankWidths, timersWidths, recentWidths, settingsBytes, hostBytes, latestBytes, tankBytes, timersBytes, recentBytes, isHost, isTank, recentIn}
+use Rattle.area_parts.specs.Parts.{settingsWidths, hostWidths, latestWidths, tankWidths, timersWidths, recentWidths, settingsBytes, hostBytes, latestBytes, tankBytes, timersBytes, recentBytes, isSettings, isHost, isTank, recentIn}
 use Rattle.numbers.proofs.Numbers.{bytes-between, number-again}
-use Rattle.area_parts.proofs.Parts.{settings-back, host-back, host-is, latest-back, tank-back, tank-is, timers-back, recent-length, recent-back, settings-again, host-again, latest-again, tank-again, timers-again, recent-again}
+use Rattle.area_parts.proofs.Parts.{settings-back, settings-is, host-back, host-is, latest-back, tank-back, tank-is, timers-back, recent-length, recent-back, settings-again, host-again, latest-again, tank-again, timers-again, recent-again}
 use Rattle.pack.specs.declared.Host.{Host}
 use Rattle.recent.specs.declared.Recent.{Recent}
 use Rattle.pack.specs.declared.Latest.{Latest}
@@ -105,7 +105,7 @@ unfolding areaOf
 area-is s f =
     let p = f .pack in
     let size : length (areaOf s) ≡ areaLength = omega (arith, recent-length (s .pack .recent) (p .recent .sixty)) in
-    rw (eq-eqb _ _ size, host-is (s .pack .host) (p .host), tank-is (s .pack .tank) (p .tank))
+    rw (eq-eqb _ _ size, settings-is (s .pack .settings) (p .settings), host-is (s .pack .host) (p .host), tank-is (s .pack .tank) (p .tank))
 
 -- what was stored is loaded
 pub loaded-back : (s : State) → Fits s → s .pack .recent .count < 256 → loadedOf (areaOf s) ≡ loaded s
@@ -132,22 +132,29 @@ all-parts a size =
     )
     (ap (take areaLength) (sym (append-nil a)) ∙ take-at a [] areaLength size)
 
+-- what makes bytes an area, test by test
+area-tests : (a : List ℕ) → isArea a ≡ true
+    → (eqb (length a) areaLength ≡ true) × (isSettings (between a settingsAt hostAt) ≡ true) × (isHost (between a hostAt latestAt) ≡ true) × (isTank (between a tankAt timersAt) ≡ true)
+area-tests a is =
+    let tank = and-eq-true-iff _ (isTank (between a tankAt timersAt)) .0 is in
+    let host = and-eq-true-iff _ (isHost (between a hostAt latestAt)) .0 (tank .0) in
+    let settings = and-eq-true-iff (eqb (length a) areaLength) (isSettings (between a settingsAt hostAt)) .0 (host .0) in
+    (settings .0, settings .1, host .1, tank .1)
+
 pub area-size : (a : List ℕ) → isArea a ≡ true → length a ≡ areaLength
-area-size a is =
-    eqb-true _ _ (and-eq-true-iff (eqb (length a) areaLength) (isHost (between a hostAt latestAt)) .0 (and-eq-true-iff _ (isTank (between a tankAt timersAt)) .0 is .0) .0)
+area-size a is = eqb-true _ _ (area-tests a is .0)
 
 pub held : (a : List ℕ) → Bytes a → isArea a ≡ true → areaOf (stateIn a) ≡ a
 unfolding areaOf stateIn
 held a b is =
-    let flags = and-eq-true-iff (eqb (length a) areaLength && isHost (between a hostAt latestAt)) (isTank (between a tankAt timersAt)) .0 is in
-    let host = and-eq-true-iff (eqb (length a) areaLength) (isHost (between a hostAt latestAt)) .0 (flags .0) in
+    let tests = area-tests a is in
     let size = area-size a is in
     joined
     (ap (take settingsAt) (number-again a b 1 0 (omega arith)))
-    (settings-again (between a settingsAt hostAt) (bytes-between a b settingsAt hostAt) (mid-len settingsAt hostAt a (omega arith)))
-    (host-again (between a hostAt latestAt) (bytes-between a b hostAt latestAt) (mid-len hostAt latestAt a (omega arith)) (host .1))
+    (settings-again (between a settingsAt hostAt) (bytes-between a b settingsAt hostAt) (mid-len settingsAt hostAt a (omega arith)) (tests .1))
+    (host-again (between a hostAt latestAt) (bytes-between a b hostAt latestAt) (mid-len hostAt latestAt a (omega arith)) (tests .2))
     (latest-again (between a latestAt tankAt) (bytes-between a b latestAt tankAt) (mid-len latestAt tankAt a (omega arith)))
-    (tank-again (between a tankAt timersAt) (bytes-between a b tankAt timersAt) (mid-len tankAt timersAt a (omega arith)) (flags .1))
+    (tank-again (between a tankAt timersAt) (bytes-between a b tankAt timersAt) (mid-len tankAt timersAt a (omega arith)) (tests .3))
     (timers-again (between a timersAt recentAt) (bytes-between a b timersAt recentAt) (mid-len timersAt recentAt a (omega arith)))
     (recent-again (between a recentAt areaLength) (bytes-between a b recentAt areaLength) (mid-len recentAt areaLength a (omega arith)))
     ∙ all-parts a size

@@ -1,24 +1,25 @@
--- The state in a lent area of 329 bytes, for which document 01 has no rule: the error code, then each part, the one that may grow last; each number low byte first.
+-- The state in a lent area of 330 bytes, for which document 01 has no rule: the error code, then each part, the one that may grow last; each number low byte first.
 --
 --   at   bytes
 --     0      1  error code
 --     1  9 × 2  DesignCapacity, DesignVoltage, MaxError, ManufactureDate, SerialNumber, ChargingCurrent, ChargingVoltage,
 --               TemperatureLimit, DischargeLimit
---    19  4 × 2  ManufacturerAccess, RemainingCapacityAlarm, RemainingTimeAlarm, AtRate
---    27  3 × 1  flags: AlarmMode, ChargerMode, CapacityMode
---    30  3 × 2  the latest sample's voltage, current, temperature
---    36      4  its counter
---    40      8  charge
---    48  2 × 2  full capacity, CycleCount
---    52      1  flag: FullyDischarged
---    53      8  drawn toward the next cycle
---    61      8  drawn in the run
---    69      1  flag: a run is open
---    70  3 × 4  hold, alarm timer, charger timer
---    82 60 × 4  the totals of complete seconds, newest first
---   322      1  how many are kept
---   323      2  the begun second's milliseconds
---   325      4  its total
+--    19      1  flag: plain
+--    20  4 × 2  ManufacturerAccess, RemainingCapacityAlarm, RemainingTimeAlarm, AtRate
+--    28  3 × 1  flags: AlarmMode, ChargerMode, CapacityMode
+--    31  3 × 2  the latest sample's voltage, current, temperature
+--    37      4  its counter
+--    41      8  charge
+--    49  2 × 2  full capacity, CycleCount
+--    53      1  flag: FullyDischarged
+--    54      8  drawn toward the next cycle
+--    62      8  drawn in the run
+--    70      1  flag: a run is open
+--    71  3 × 4  hold, alarm timer, charger timer
+--    83 60 × 4  the totals of complete seconds, newest first
+--   323      1  how many are kept
+--   324      2  the begun second's milliseconds
+--   326      4  its total
 --
 -- Assumes nothing.
 use Prim.Native.Nat.{ℕ, _+_}
@@ -28,7 +29,7 @@ use lib.Dec.{eqb, leb}
 use lib.ListN.{length}
 use Rattle.rooms.specs.Rooms.{between}
 use Rattle.numbers.specs.Numbers.{numberBytes, numberAt, bytesTaken}
-use Rattle.area_parts.specs.Parts.{settingsWidths, hostWidths, latestWidths, tankWidths, timersWidths, recentWidths, settingsBytes, hostBytes, latestBytes, tankBytes, timersBytes, recentBytes, settingsIn, hostIn, latestIn, tankIn, timersIn, recentIn, isHost, isTank}
+use Rattle.area_parts.specs.Parts.{settingsWidths, hostWidths, latestWidths, tankWidths, timersWidths, recentWidths, settingsBytes, hostBytes, latestBytes, tankBytes, timersBytes, recentBytes, settingsIn, hostIn, latestIn, tankIn, timersIn, recentIn, isSettings, isHost, isTank}
 use Rattle.area.specs.declared.Loaded.{Loaded}
 use Rattle.start.specs.SetUp.{zeroState}
 use Rattle.pack.specs.declared.State.{State}
@@ -88,7 +89,7 @@ stateIn area =
 -- bytes are an area: as many as one has, each flag 0 or 1 (RULES 12.2)
 abbrev pub isArea : List ℕ → Bool
 isArea area =
-    eqb (length area) areaLength && isHost (between area hostAt latestAt) && isTank (between area tankAt timersAt)
+    eqb (length area) areaLength && isSettings (between area settingsAt hostAt) && isHost (between area hostAt latestAt) && isTank (between area tankAt timersAt)
 
 -- ---- the two entries
 

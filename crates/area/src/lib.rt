@@ -5,6 +5,7 @@ ghost use Rattle.recent.specs.Fits.{RecentFit};
 ghost use Rattle.area.specs.Area.{areaLength, areaOf, stateIn, isArea, loaded, loadedOf, storedOf, storedRoom};
 use area_parts::host_in;
 use area_parts::is_host;
+use area_parts::is_settings;
 use area_parts::is_tank;
 use area_parts::latest_in;
 use area_parts::put_host;
@@ -25,7 +26,7 @@ use pack::State;
 // Where each part starts, and the bytes that an area has.
 const SETTINGS: usize = 1;
 
-pub const HOST: usize = SETTINGS + 18;
+pub const HOST: usize = SETTINGS + 19;
 
 pub const LATEST: usize = HOST + 11;
 
@@ -81,7 +82,7 @@ pub fn is_area(area: &[u8]) -> bool
     if area.len() != LENGTH {
         return false;
     }
-    is_host(&area[HOST..LATEST]) & is_tank(&area[TANK..TIMERS])
+    is_settings(&area[SETTINGS..HOST]) & is_host(&area[HOST..LATEST]) & is_tank(&area[TANK..TIMERS])
 }
 
 // The whole state.

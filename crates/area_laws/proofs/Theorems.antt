@@ -1,6 +1,7 @@
 -- The theorems on areas. (That each gives the other back is area's Whole.)
 -- Assumes nothing.
 use mathlib.Core.Path.{refl, sym, ap, _∙_}
+use mathlib.Core.Bool.{true, false}
 use mathlib.Core.List.{List, _++_}
 use Prim.Native.Nat.{ℕ, zero, suc, _+_, _^_, _≤_}
 use native.Mathlib.Omega.{arith}
@@ -13,8 +14,9 @@ use Rattle.numbers.specs.Numbers.{numbersAt}
 use Rattle.area_parts.specs.Parts.{settingsBytes, hostBytes, latestBytes, tankBytes, timersBytes, recentBytes, recentIn}
 use Rattle.numbers.proofs.Numbers.{bytes-between, number-fits}
 use Rattle.area.proofs.Whole.{held, read-back}
-use Rattle.area_laws.specs.Laws.{AreasTell, HeldInArea, StatesTell, SoundGoesIn, ErrorFirst, minuteAnew, AreaAnew, SoundAnew, countsAnew, AreaWithoutCounts, SoundWithoutCounts}
+use Rattle.area_laws.specs.Laws.{AreasTell, HeldInArea, StatesTell, SoundGoesIn, ErrorFirst, minuteAnew, AreaAnew, SoundAnew, countsAnew, AreaWithoutCounts, SoundWithoutCounts, AreaAs, SoundAs}
 use Rattle.pack.proofs.Soundness.{count-of-sound, parts, pack-of-sound, pack-sound, code-of-sound, sound-state, settings-facts, toward-sound, run-sound}
+use Rattle.pack.proofs.Choice.{sound-as}
 use Rattle.recent.proofs.Soundness.{zero-sound}
 use Rattle.pack.specs.Sound.{tankSound}
 use Rattle.pack.specs.declared.Pack.{Pack}
@@ -116,3 +118,11 @@ sound-without-counts s h =
       timers = f .timers;
     }))
     (code-of-sound s h)
+
+pub area-as : AreaAs
+unfolding areaOf
+area-as true s = refl
+area-as false s = refl
+
+pub sound-goes-on : SoundAs
+sound-goes-on plain s h = sound-as plain s ∙ h

@@ -1,15 +1,16 @@
 -- What is proved of areas, over the definitions of the crate `area`. (That a store is loaded again, and a load stored again,
 -- is in the contracts of `store` and `load`.) Assumes nothing: these are definitions.
 use mathlib.Core.Path.{_≡_}
-use mathlib.Core.Bool.{true, false}
-use mathlib.Core.List.{List, _++_}
+use mathlib.Core.Bool.{Bool, true, false, cond}
+use mathlib.Core.List.{List, _∷_, _++_}
 use Prim.Native.Nat.{ℕ, _-_, _≤_}
 use lib.ListN.{length, take, drop, replicate}
 use Rattle.rooms.specs.Rooms.{Bytes}
 use Rattle.numbers.specs.Numbers.{bytesTaken}
 use Rattle.area_parts.specs.Parts.{recentWidths}
 use Rattle.recent.specs.Recent.{zeroRecent}
-use Rattle.area.specs.Area.{timersAt, recentAt, areaLength, areaOf, stateIn, isArea, storedOf}
+use Rattle.area.specs.Area.{hostAt, timersAt, recentAt, areaLength, areaOf, stateIn, isArea, storedOf}
+use Rattle.pack.specs.Choice.{stateAs}
 use Rattle.pack.specs.Fits.{Fits}
 use Rattle.pack.specs.Sound.{soundOf}
 use Rattle.pack.specs.declared.State.{State}
@@ -90,6 +91,14 @@ AreaWithoutCounts = (s : State) → areaOf (countsAnew s) ≡ take (timersAt - 1
 -- and it is sound where the state was (RULES 12.6)
 abbrev pub SoundWithoutCounts : Type 0
 SoundWithoutCounts = (s : State) → soundOf s ≡ true → soundOf (countsAnew s) ≡ true
+
+-- an area with the choice made so has its flag before the host's part, 1 for plain, 0 for PEC, and every other byte as it was (RULES 12.7)
+abbrev pub AreaAs : Type 0
+AreaAs = (plain : Bool) (s : State) → areaOf (stateAs plain s) ≡ take (hostAt - 1) (areaOf s) ++ cond plain 1 0 ∷ drop hostAt (areaOf s)
+
+-- and it is sound where the state was (RULES 12.7)
+abbrev pub SoundAs : Type 0
+SoundAs = (plain : Bool) (s : State) → soundOf s ≡ true → soundOf (stateAs plain s) ≡ true
 
 -- the error code is the area's first byte: where a call leaves the pack as it was, every other byte of the area stays
 abbrev pub ErrorFirst : Type 0

@@ -14,7 +14,7 @@ use Rattle.rooms.proofs.Rooms.{then, whole}
 use Rattle.pack.specs.Fits.{SettingsFit, HostFit, LatestFit, TankFit, TimersFit}
 use Rattle.recent.specs.Fits.{Below, RecentFit}
 use Rattle.numbers.specs.Numbers.{numberBytes, numbersBytes, numberAt, numbersAt, bytesTaken, Within, flagOf, flagged, flags}
-use Rattle.area_parts.specs.Parts.{settingsWidths, settingsNumbers, settingsFrom, settingsBytes, settingsIn, hostWidths, hostNumbers, hostFrom, hostBytes, hostIn, isHost, latestWidths, latestNumbers, latestFrom, latestBytes, latestIn, tankWidths, tankNumbers, tankFrom, tankBytes, tankIn, isTank, timersWidths, timersNumbers, timersFrom, timersBytes, timersIn, recentWidths, recentNumbers, recentFrom, recentBytes, recentIn}
+use Rattle.area_parts.specs.Parts.{settingsWidths, settingsNumbers, settingsFrom, settingsBytes, settingsIn, isSettings, hostWidths, hostNumbers, hostFrom, hostBytes, hostIn, isHost, latestWidths, latestNumbers, latestFrom, latestBytes, latestIn, tankWidths, tankNumbers, tankFrom, tankBytes, tankIn, isTank, timersWidths, timersNumbers, timersFrom, timersBytes, timersIn, recentWidths, recentNumbers, recentFrom, recentBytes, recentIn}
 use Rattle.numbers.proofs.Numbers.{numbers-back, all-again}
 use Rattle.numbers.proofs.Stores.{bytes-length}
 use Rattle.pack.specs.declared.Host.{Host}
@@ -52,12 +52,17 @@ flag-within false = omega arith
 
 -- ---- stored, then read
 
+settings-numbers : (s : Settings) → SettingsFit s → numbersAt settingsWidths (settingsBytes s) 0 ≡ settingsNumbers s
+settings-numbers s f =
+    numbers-back settingsWidths (settingsNumbers s) (settingsBytes s) 0
+    (f .DesignCapacity, (f .DesignVoltage, (f .MaxError, (f .ManufactureDate, (f .SerialNumber, (f .ChargingCurrent, (f .ChargingVoltage, (f .TemperatureLimit, (f .DischargeLimit, (flag-within (s .plain), tt))))))))))
+    refl
+
 pub settings-back : (s : Settings) → SettingsFit s → settingsIn (settingsBytes s) ≡ s
-settings-back s f =
-    ap settingsFrom
-    (numbers-back settingsWidths (settingsNumbers s) (settingsBytes s) 0
-    (f .DesignCapacity, (f .DesignVoltage, (f .MaxError, (f .ManufactureDate, (f .SerialNumber, (f .ChargingCurrent, (f .ChargingVoltage, (f .TemperatureLimit, (f .DischargeLimit, tt)))))))))
-    refl)
+settings-back s f = ap settingsFrom (settings-numbers s f) ∙ rw (flag-back (s .plain))
+
+pub settings-is : (s : Settings) → SettingsFit s → isSettings (settingsBytes s) ≡ true
+settings-is s f = ap (λ (ns : List ℕ). flags (drop 9 ns)) (settings-numbers s f) ∙ rw (is-flag (s .plain))
 
 host-numbers : (h : Host) → HostFit h → numbersAt hostWidths (hostBytes h) 0 ≡ hostNumbers h
 host-numbers h f =
@@ -156,8 +161,8 @@ module _ (r : Recent) where
 -- ---- read, then stored
 
 module _ (part : List ℕ) (b : Bytes part) where
-  pub settings-again : length part ≡ bytesTaken settingsWidths → settingsBytes (settingsIn part) ≡ part
-  settings-again n = all-again part b settingsWidths n
+  pub settings-again : length part ≡ bytesTaken settingsWidths → isSettings part ≡ true → settingsBytes (settingsIn part) ≡ part
+  settings-again n is = rw (flag-again (numberAt 1 part 18) (and-eq-true-iff _ _ .0 is .0)) (all-again part b settingsWidths n)
 
   pub host-again : length part ≡ bytesTaken hostWidths → isHost part ≡ true → hostBytes (hostIn part) ≡ part
   host-again n is =

@@ -13,10 +13,10 @@ use Rattle.pack.specs.declared.Settings.{Settings}
 use Rattle.pack.specs.declared.Tank.{Tank}
 use Rattle.pack.specs.declared.Timers.{Timers}
 
--- ---- what set-up fixes
+-- ---- what set-up fixes: nine words, and the choice plain as a flag
 
 abbrev pub settingsWidths : List ℕ
-settingsWidths = replicate 9 2
+settingsWidths = 2 ∷ 2 ∷ 2 ∷ 2 ∷ 2 ∷ 2 ∷ 2 ∷ 2 ∷ 2 ∷ 1 ∷ []
 
 abbrev pub settingsNumbers : Settings → List ℕ
 settingsNumbers s =
@@ -29,6 +29,7 @@ settingsNumbers s =
     ∷ s .ChargingVoltage
     ∷ s .TemperatureLimit
     ∷ s .DischargeLimit
+    ∷ flagOf (s .plain)
     ∷ []
 
 abbrev pub settingsFrom : List ℕ → Settings
@@ -43,6 +44,7 @@ settingsFrom ns =
       ChargingVoltage = getD ns 6 0;
       TemperatureLimit = getD ns 7 0;
       DischargeLimit = getD ns 8 0;
+      plain = flagged (getD ns 9 0);
     }
 
 abbrev pub settingsBytes : Settings → List ℕ
@@ -50,6 +52,10 @@ settingsBytes s = numbersBytes settingsWidths (settingsNumbers s)
 
 abbrev pub settingsIn : List ℕ → Settings
 settingsIn part = settingsFrom (numbersAt settingsWidths part 0)
+
+-- its flag is a flag
+abbrev pub isSettings : List ℕ → Bool
+isSettings part = flags (drop 9 (numbersAt settingsWidths part 0))
 
 -- ---- what the host wrote: four words, and the three bits of BatteryMode as flags
 

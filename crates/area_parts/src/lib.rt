@@ -3,7 +3,7 @@ ghost use mathlib.Core.Path.{_≡_};
 ghost use lib.ListN.{length};
 ghost use Rattle.recent.specs.Fits.{RecentFit};
 ghost use Rattle.numbers.specs.Numbers.{bytesTaken, flagOf};
-ghost use Rattle.area_parts.specs.Parts.{settingsWidths, hostWidths, latestWidths, tankWidths, timersWidths, recentWidths, settingsBytes, hostBytes, latestBytes, tankBytes, timersBytes, recentBytes, settingsIn, hostIn, latestIn, tankIn, timersIn, recentIn, isHost, isTank};
+ghost use Rattle.area_parts.specs.Parts.{settingsWidths, hostWidths, latestWidths, tankWidths, timersWidths, recentWidths, settingsBytes, hostBytes, latestBytes, tankBytes, timersBytes, recentBytes, settingsIn, hostIn, latestIn, tankIn, timersIn, recentIn, isSettings, isHost, isTank};
 use numbers::byte_at;
 use numbers::long_at;
 use numbers::longs_at;
@@ -47,6 +47,7 @@ pub fn put_settings(part: &mut [u8], s: Settings)
             s.DischargeLimit,
         ],
     );
+    part[18] = flag(s.plain);
 }
 
 pub fn put_host(part: &mut [u8], h: Host)
@@ -125,7 +126,15 @@ pub fn settings_in(part: &[u8]) -> Settings
         ChargingVoltage: w[6],
         TemperatureLimit: w[7],
         DischargeLimit: w[8],
+        plain: byte_at(part, 18) == 1,
     }
+}
+
+pub fn is_settings(part: &[u8]) -> bool
+    requires { ⌜ length (now part) ≡ bytesTaken settingsWidths ⌝ }
+    ensures { λ r. ⌜ r ≡ isSettings (now (part .entry)) ⌝ }
+{
+    byte_at(part, 18) <= 1
 }
 
 pub fn host_in(part: &[u8]) -> Host

@@ -1,10 +1,11 @@
--- Document 01, Clock and broadcasts: what goes, and what is sent, in order.
+-- Document 01, Clock and broadcasts, and request R-5: what goes, what is sent, in order, and the room for it.
 -- Assumes nothing.
-use Prim.Native.Nat.{ℕ, _+_}
+use Prim.Native.Nat.{ℕ}
 use mathlib.Core.Bool.{Bool, cond, not, _&&_}
-use mathlib.Core.List.{List, [], _++_}
+use mathlib.Core.List.{List, [], _∷_, _++_}
 use lib.Dec.{leb}
-use Rattle.frame.specs.Broadcasts.{messageOf}
+use Rattle.frame.specs.Broadcasts.{messageTo, allSent}
+use Rattle.frame.specs.declared.Message.{Message}
 use Rattle.pack.specs.declared.Pack.{Pack}
 use Rattle.alarms.specs.Alarms.{anyAlarm, chargerAlarm, chargingCurrent}
 use Rattle.status.specs.Status.{alarmWord}
@@ -18,17 +19,21 @@ unfoldable pub chargerGoes : Pack → Bool
 chargerGoes p = not (p .host .ChargerMode) && leb 30000 (p .timers .charger)
 
 -- AlarmWarning `10 16`, and `12 16` if bit 15, 14 or 12 is set (RULES 8.3)
-unfoldable pub alarmsOf : Pack → List ℕ
-alarmsOf p = cond (alarmGoes p) (messageOf 0x10 0x16 (alarmWord p) ++ cond (chargerAlarm p) (messageOf 0x12 0x16 (alarmWord p)) []) []
+unfoldable pub alarmsOf : Pack → List Message
+alarmsOf p = cond (alarmGoes p) (messageTo 0x10 0x16 (alarmWord p) ∷ cond (chargerAlarm p) (messageTo 0x12 0x16 (alarmWord p) ∷ []) []) []
 
 -- the `12 14` and `12 15` words (RULES 8.5)
-unfoldable pub chargerWordsOf : Pack → List ℕ
-chargerWordsOf p = cond (chargerGoes p) (messageOf 0x12 0x14 (chargingCurrent p) ++ messageOf 0x12 0x15 (p .settings .ChargingVoltage)) []
+unfoldable pub chargerWordsOf : Pack → List Message
+chargerWordsOf p = cond (chargerGoes p) (messageTo 0x12 0x14 (chargingCurrent p) ∷ messageTo 0x12 0x15 (p .settings .ChargingVoltage) ∷ []) []
 
 -- messages, in order (RULES 8.6)
-abbrev pub broadcastOf : Pack → List ℕ
-broadcastOf p = alarmsOf p ++ chargerWordsOf p
+abbrev pub messagesOf : Pack → List Message
+messagesOf p = alarmsOf p ++ chargerWordsOf p
 
--- how many messages that is (RULES 8.1)
-abbrev pub messagesOf : Pack → ℕ
-messagesOf p = cond (alarmGoes p) (1 + cond (chargerAlarm p) 1 0) 0 + cond (chargerGoes p) 2 0
+-- their bytes, each with its PEC, or plain if set-up chose that (RULES 8.7)
+abbrev pub broadcastOf : Pack → List ℕ
+broadcastOf p = allSent (p .settings .plain) (messagesOf p)
+
+-- the room that broadcasts need: 20 bytes, 16 in plain (RULES 1.2)
+abbrev pub leastRoom : Bool → ℕ
+leastRoom plain = cond plain 16 20

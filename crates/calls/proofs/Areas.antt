@@ -1,12 +1,11 @@
 -- The calls on an area: what a load tells, what a store leaves, and each call's numbers put together.
 -- Assumes nothing.
-use mathlib.Core.Bool.{Bool, true, false, not, true≢false}
+use mathlib.Core.Bool.{Bool, true, false, true≢false}
 use mathlib.Core.List.{List}
 use mathlib.Core.Path.{_≡_, refl, sym, ap, ap₂, _∙_}
 use Prim.Native.Nat.{ℕ, _≤_}
 use native.Mathlib.Omega.{arith}
-use borrow.Author.Tests.{eq-eqb, ne-eqb, le-leb, not-false}
-use lib.Dec.{ltb}
+use borrow.Author.Tests.{eq-eqb, ne-eqb, le-leb}
 use lib.ListN.{length, length-append}
 use Rattle.area.specs.Area.{areaLength, areaOf, stateIn, isArea, loadedOf}
 use Rattle.area.specs.Area as area
@@ -18,8 +17,9 @@ use Rattle.commands.specs.Commands.{kindOf}
 use Rattle.commands.specs.declared.Kind.{Kind}
 use Rattle.commands.specs.declared.Kind.the-variants.{ReadWrite, ReadOnly, Block, Optional, Reserved}
 use Rattle.bus.specs.declared.Transacted.{Transacted}
-use Rattle.broadcasts.proofs.Sending.{at-most-16}
-use Rattle.clock.specs.Broadcast.{refusedSample, servedSample, sampledOf, sampleOf}
+use Rattle.broadcasts.proofs.Sending.{at-most-20}
+use Rattle.clock.proofs.Outcome.{outcome}
+use Rattle.clock.specs.Broadcast.{sampledOf, sampleOf}
 use Rattle.clock.specs.Broadcast as clock
 use Rattle.clock.specs.Sample.{movedOf, elapsedOf}
 use Rattle.clock.specs.declared.Sampled.{Sampled}
@@ -84,13 +84,6 @@ start-served a x y size e z ea =
 
 -- ---- samples
 
--- what holds of a refusal by 1 or 2 and of a sample served on a sound state holds of every sample
-by-answer : (P : Sampled → Type 0) (s : State) (x : Sample) (n : ℕ) → P (refusedSample 1 s) → P (refusedSample 2 s)
-    → (soundOf s ≡ true → P (servedSample s x)) → P (sampleOf s x n)
-unfolding sampleOf
-by-answer P s x n one two done =
-    chosen P (not (soundOf s)) (λ e. one) (λ e. chosen P (ltb n 16) (λ f. two) (λ f. done (not-false (soundOf s) e)))
-
 -- a sound state keeps at most 60 seconds after a sample too
 served-count : (s : State) (x : Sample) → soundOf s ≡ true → sampledOf (s .pack) x .recent .count ≤ 60
 unfolding sampledOf movedOf
@@ -100,11 +93,11 @@ served-count s x h =
 
 pub sample-count : (s : State) (x : Sample) (n : ℕ) → stays (sampleOf s x n .answer) ≡ false → sampleOf s x n .state .pack .recent .count ≤ 60
 sample-count s x n =
-    by-answer (λ r. stays (r .answer) ≡ false → r .state .pack .recent .count ≤ 60) s x n (λ h. absurd (true≢false h)) (λ h. absurd (true≢false h))
+    outcome (λ r. stays (r .answer) ≡ false → r .state .pack .recent .count ≤ 60) s x n (λ h. absurd (true≢false h)) (λ h. absurd (true≢false h))
     (λ sound h. served-count s x sound)
 
-pub sample-most : (s : State) (x : Sample) (n : ℕ) → sampleOf s x n .length ≤ 16
-sample-most s x n = by-answer (λ r. r .length ≤ 16) s x n (omega arith) (omega arith) (λ sound. at-most-16 (movedOf (s .pack) x))
+pub sample-most : (s : State) (x : Sample) (n : ℕ) → sampleOf s x n .length ≤ 20
+sample-most s x n = outcome (λ r. r .length ≤ 20) s x n (omega arith) (omega arith) (λ sound. at-most-20 (movedOf (s .pack) x))
 
 module _ (a : List ℕ) (x : Sample) (room : List ℕ) {l : Loaded} (loaded : l ≡ loadedOf a) where
   pub sample-none : (l .answer ≡ 0 → ⊥) → (1 ≡ sampleNumber a x room) × ((a ≡ sampleArea a x room) × (room ≡ sampleRoom a x room))

@@ -7,7 +7,7 @@ use lib.Dec.{ltb}
 use lib.ListN.{length}
 use Rattle.clock.specs.Sample.{movedOf}
 use Rattle.clock.specs.declared.Sampled.{Sampled}
-use Rattle.broadcasts.specs.Broadcasts.{alarmGoes, chargerGoes, broadcastOf, messagesOf}
+use Rattle.broadcasts.specs.Broadcasts.{alarmGoes, chargerGoes, broadcastOf, messagesOf, leastRoom}
 use Rattle.pack.specs.Sound.{soundOf}
 use Rattle.pack.specs.declared.Pack.{Pack}
 use Rattle.pack.specs.declared.Sample.{Sample}
@@ -38,19 +38,19 @@ servedSample s sample =
       answer = 0;
       state = record { error = s .error; pack = sampledOf (s .pack) sample };
       length = length (broadcastOf (movedOf (s .pack) sample));
-      messages = messagesOf (movedOf (s .pack) sample);
+      messages = length (messagesOf (movedOf (s .pack) sample));
     }
 
--- 1: state isn't sound; 2: broadcast room under 16 bytes; else 0 (RULES 1.1, 1.2)
+-- 1: state isn't sound; 2: broadcast room under 20 bytes, under 16 in plain; else 0 (RULES 1.1, 1.2)
 unfoldable pub sampleOf : State → Sample → ℕ → Sampled
 sampleOf s sample room =
     cond (not (soundOf s)) (refusedSample 1 s)
-    (cond (ltb room 16) (refusedSample 2 s)
+    (cond (ltb room (leastRoom (s .pack .settings .plain))) (refusedSample 2 s)
     (servedSample s sample))
 
 -- a refusal writes nothing; a broadcast is at the front and the rest of the room stays (RULES 2.3, 2.5)
 unfoldable pub broadcastRoom : State → Sample → List ℕ → List ℕ
 broadcastRoom s sample room =
     cond (not (soundOf s)) room
-    (cond (ltb (length room) 16) room
+    (cond (ltb (length room) (leastRoom (s .pack .settings .plain))) room
     (placed (broadcastOf (movedOf (s .pack) sample)) room))

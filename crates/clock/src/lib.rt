@@ -4,7 +4,7 @@ ghost use mathlib.Core.Bool.{true};
 ghost use Prim.Native.Nat.{_≤_};
 ghost use lib.ListN.{length};
 ghost use Rattle.clock.specs.Sample.{elapsedOf, movedOf};
-ghost use Rattle.broadcasts.specs.Broadcasts.{broadcastOf};
+ghost use Rattle.broadcasts.specs.Broadcasts.{broadcastOf, leastRoom};
 ghost use Rattle.clock.specs.Broadcast.{servedSample, sampleOf, broadcastRoom};
 ghost use Rattle.pack.specs.Facts.{SoundParts};
 ghost use Rattle.pack.specs.Sound.{soundOf};
@@ -51,7 +51,7 @@ fn moved(p: Pack, s: Sample) -> Pack
 
 // A sample on a sound state with room enough.
 fn serve(s: State, sample: Sample, room: &mut [u8]) -> Sampled
-    requires { ⌜ (soundOf s ≡ true) × (16 ≤ length (now room)) ⌝ }
+    requires { ⌜ (soundOf s ≡ true) × (leastRoom (s .pack .settings .plain) ≤ length (now room)) ⌝ }
     ensures result { λ r. ⌜ r ≡ servedSample s sample ⌝ }
     ensures memory { λ r. ⌜ now (room .exit) ≡ placed (broadcastOf (movedOf (s .pack) sample)) (now (room .entry)) ⌝ }
 {
@@ -60,6 +60,7 @@ fn serve(s: State, sample: Sample, room: &mut [u8]) -> Sampled
     let charger = broadcasts::charger_goes(p);
     let at = broadcasts::send_alarms(p, alarm, room);
     let length = broadcasts::send_charger_words(p, charger, room, at);
+    let size = frame::message_size(p.settings.plain);
     let timers = timers::restarted(p.timers, alarm, charger);
     p.timers = timers;
     let state = State {
@@ -70,7 +71,7 @@ fn serve(s: State, sample: Sample, room: &mut [u8]) -> Sampled
         answer: 0,
         state: state,
         length: length,
-        messages: length / 4,
+        messages: length / size,
     }
 }
 
@@ -87,7 +88,7 @@ pub fn sample(s: State, sample: Sample, room: &mut [u8]) -> Sampled
             messages: 0,
         };
     }
-    if room.len() < 16 {
+    if room.len() < broadcasts::least_room(s.pack.settings.plain) {
         return Sampled {
             answer: 2,
             state: s,

@@ -7,7 +7,7 @@ use Rattle.capacity.proofs.Bounds.{at-most}
 use Rattle.broadcasts.specs.Broadcasts.{alarmGoes, chargerGoes}
 use Rattle.clock.specs.Broadcast.{sampledOf}
 use Rattle.clock.specs.Sample.{elapsedOf, movedOf}
-use Rattle.clock_laws.proofs.Sound.{outcome}
+use Rattle.clock.proofs.Outcome.{outcome}
 use Rattle.clock_laws.proofs.Timers.{no-more}
 use Rattle.clock_laws.specs.Promises.{SampledFits}
 use Rattle.pack.proofs.Kept.{kept-fits}
@@ -60,4 +60,4 @@ sampled-pack p x h f g =
 
 pub sampled-fits : SampledFits
 sampled-fits s x n f g =
-    outcome (λ r. Fits (r .state)) s x n (λ answer. f) (λ h. record { error = f .error; pack = sampled-pack (s .pack) x (parts (s .pack) (pack-of-sound s h)) (f .pack) g })
+    outcome (λ r. Fits (r .state)) s x n f f (λ h. record { error = f .error; pack = sampled-pack (s .pack) x (parts (s .pack) (pack-of-sound s h)) (f .pack) g })

@@ -5,12 +5,12 @@ use mathlib.Core.Bool.{Bool, true, false, cond, not, _&&_}
 use mathlib.Core.Path.{_≡_, refl}
 use native.Mathlib.Omega.{arith}
 use borrow.Author.Tests.{eq-eqb, eqb-true, leb-false, not-false}
-use lib.Dec.{eqb, leb, ltb}
+use lib.Dec.{eqb, leb}
 use Rattle.tank.proofs.Charge as tank
 use Rattle.broadcasts.specs.Broadcasts.{alarmGoes, chargerGoes}
-use Rattle.clock.specs.Broadcast.{sampledOf, sampleOf, servedSample, refusedSample}
+use Rattle.clock.proofs.Outcome.{outcome}
+use Rattle.clock.specs.Broadcast.{sampledOf}
 use Rattle.clock.specs.Sample.{elapsedOf, movedOf}
-use Rattle.clock.specs.declared.Sampled.{Sampled}
 use Rattle.clock_laws.specs.Promises.{SampleSound, ErrorStays}
 use Rattle.clock_laws.proofs.Timers.{no-more}
 use Rattle.pack.proofs.Soundness.{timers-facts, timers-sound, parts, pack-sound, pack-of-sound, code-of-sound, sound-state}
@@ -71,24 +71,10 @@ sampled-sound s x h =
     }))
     (code-of-sound s h)
 
--- what holds of a refusal and of a served sample holds of every sample
-module _ (P : Sampled → Type 0) (s : State) (x : Sample) (n : ℕ) (refused : (answer : ℕ) → P (refusedSample answer s)) (served : soundOf s ≡ true → P (servedSample s x)) where
-  room-or : (b : Bool) → soundOf s ≡ true → P (cond b (refusedSample 2 s) (servedSample s x))
-  room-or true h = refused 2
-  room-or false h = served h
-
-  sound-or : (b : Bool) → soundOf s ≡ b → P (cond (not b) (refusedSample 1 s) (cond (ltb n 16) (refusedSample 2 s) (servedSample s x)))
-  sound-or true h = room-or (ltb n 16) h
-  sound-or false h = refused 1
-
-  pub outcome : P (sampleOf s x n)
-  unfolding sampleOf
-  outcome = sound-or (soundOf s) refl
-
 -- a sample on a sound state leaves a sound state, refused or not
 pub sample-sound : SampleSound
-sample-sound s x n h = outcome (λ r. soundOf (r .state) ≡ true) s x n (λ answer. h) (sampled-sound s x)
+sample-sound s x n h = outcome (λ r. soundOf (r .state) ≡ true) s x n h h (sampled-sound s x)
 
 -- the error code stays
 pub error-stays : ErrorStays
-error-stays s x n = outcome (λ r. r .state .error ≡ s .error) s x n (λ answer. refl) (λ h. refl)
+error-stays s x n = outcome (λ r. r .state .error ≡ s .error) s x n refl refl (λ h. refl)

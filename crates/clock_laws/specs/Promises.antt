@@ -61,13 +61,13 @@ SilentInAlarmMode = (q : Pack) → q .host .AlarmMode ≡ true → alarmGoes q �
 abbrev pub SilentInChargerMode : Type 0
 SilentInChargerMode = (q : Pack) → q .host .ChargerMode ≡ true → chargerGoes q ≡ false
 
--- 5. the number of bytes sent is four times the number of messages
-abbrev pub FourBytesEach : Type 0
-FourBytesEach = (s : State) (x : Sample) (n : ℕ) → sampleOf s x n .length ≡ 4 * sampleOf s x n .messages
+-- 5. the number of bytes sent is five times the number of messages, four times in plain
+abbrev pub BytesEach : Type 0
+BytesEach = (s : State) (x : Sample) (n : ℕ) → sampleOf s x n .length ≡ cond (s .pack .settings .plain) 4 5 * sampleOf s x n .messages
 
--- at most 16
-abbrev pub SixteenAtMost : Type 0
-SixteenAtMost = (s : State) (x : Sample) (n : ℕ) → sampleOf s x n .length ≤ 16
+-- at most 20, at most 16 in plain
+abbrev pub BytesAtMost : Type 0
+BytesAtMost = (s : State) (x : Sample) (n : ℕ) → sampleOf s x n .length ≤ cond (s .pack .settings .plain) 16 20
 
 -- and bytes past them in the room stay
 abbrev pub RestStays : Type 0

@@ -1,2 +1,3 @@
 pub mod Twelve
 pub mod Learned
+pub mod Broadcasts

@@ -1,6 +1,7 @@
 -- Document 01's twelve worked examples, the last by R-2's rule: one table over the definitions that the contracts cite.
 -- Assumes nothing.
 use Prim.Native.Nat.{ℕ}
+use mathlib.Core.Bool.{false}
 use mathlib.Core.List.{List, [], _∷_, map}
 use mathlib.Core.Path.{_≡_}
 use lib.IntN.{pos, negsuc}
@@ -41,6 +42,7 @@ halfFull =
       ChargingVoltage = 0;
       TemperatureLimit = 0;
       DischargeLimit = 0;
+      plain = false;
     })
     (record { voltage = 14800; current = pos 0; temperature = 0; counter = 0 })
 

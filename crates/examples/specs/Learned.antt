@@ -1,6 +1,7 @@
 -- Request R-4 worked by hand: a pack of 4,000 mAh, full at set-up and worn to 3,750. At −1,000 mA an hour draws 1,000 mAh.
 -- Assumes nothing.
 use Prim.Native.Nat.{ℕ}
+use mathlib.Core.Bool.{false}
 use mathlib.Core.List.{List, [], _∷_, _++_}
 use mathlib.Core.Path.{_≡_}
 use lib.IntN.{ℤ, pos, negsuc}
@@ -26,6 +27,7 @@ full =
       ChargingVoltage = 0;
       TemperatureLimit = 4000;
       DischargeLimit = 12000;
+      plain = false;
     })
     (record { voltage = 16000; current = pos 0; temperature = 2931; counter = 0 })
 

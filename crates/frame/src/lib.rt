@@ -5,7 +5,7 @@ ghost use Prim.Native.Nat.{_+_, _≤_, _<_};
 ghost use lib.ListN.{length};
 ghost use lib.Seq.{sets};
 ghost use Rattle.frame.specs.Transactions.{requestOf, writeOf, replyOf, wordBody, blockBody};
-ghost use Rattle.frame.specs.Broadcasts.{messageOf};
+ghost use Rattle.frame.specs.Broadcasts.{sentAs, messageSize};
 ghost use Rattle.rooms.specs.Rooms.{placed};
 
 // What the driver's bytes and mark ask for; or the answer 3, 4 or 5.
@@ -96,14 +96,33 @@ pub fn put_block(room: &mut [u8], request: &[u8], text: &[u8]) -> usize
     n + 2
 }
 
-// A broadcast message from the place at on; the place after it.
-pub fn put_message(room: &mut [u8], at: usize, address: u8, command: u8, word: u16) -> usize
-    requires { ⌜ at + 4 ≤ length (now room) ⌝ }
-    ensures result { λ r. ⌜ r ≡ at + length (messageOf address command word) ⌝ }
-    ensures memory { λ r. ⌜ now (room .exit) ≡ sets (now (room .entry)) at (messageOf address command word) ⌝ }
+// A broadcast message: a word under a command, for an address.
+pub struct Message {
+    pub address: u8,
+    pub command: u8,
+    pub word: u16,
+}
+
+// The bytes of a message, with its PEC or plain.
+pub fn message_size(plain: bool) -> usize
+    ensures { λ r. ⌜ r ≡ messageSize plain ⌝ }
 {
-    let low = words::low(word);
-    let high = words::high(word);
-    rooms::put_bytes(room, at, &[address, command, low, high]);
-    at + 4
+    if plain { 4 } else { 5 }
+}
+
+// A message from the place at on, with its PEC or plain; the place after it.
+pub fn put_message(room: &mut [u8], at: usize, plain: bool, m: Message) -> usize
+    requires { ⌜ at + messageSize plain ≤ length (now room) ⌝ }
+    ensures result { λ r. ⌜ r ≡ at + length (sentAs plain m) ⌝ }
+    ensures memory { λ r. ⌜ now (room .exit) ≡ sets (now (room .entry)) at (sentAs plain m) ⌝ }
+{
+    let low = words::low(m.word);
+    let high = words::high(m.word);
+    if plain {
+        rooms::put_bytes(room, at, &[m.address, m.command, low, high]);
+        return at + 4;
+    }
+    let check = pec::pec(&[m.address, m.command, low, high]);
+    rooms::put_bytes(room, at, &[m.address, m.command, low, high, check]);
+    at + 5
 }

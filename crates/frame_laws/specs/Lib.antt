@@ -1,2 +1,3 @@
 pub mod Requests
 pub mod Exchanges
+pub mod Broadcasts

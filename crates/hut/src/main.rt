@@ -67,6 +67,7 @@ fn beginning() -> State {
         ChargingVoltage: 16800,
         TemperatureLimit: 3182,
         DischargeLimit: 11000,
+        plain: true,
     };
     let rest = Measured {
         voltage: 16000,

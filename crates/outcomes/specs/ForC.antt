@@ -124,8 +124,8 @@ snatchblockShelfReportTerms = termsOf
 abbrev pub snatchblockSetUpTerms : Terms snatchblock-set-up-owed.ended
 snatchblockSetUpTerms = termsOf
     (ℕ ∷ List ℕ ∷ [])
-    (λ κs r (area, (_, (_, (_, (_, (_, (_, (_, (_, (_, (_, (_, (_, (_, (_, (_, (_, _))))))))))))))))). (r, (now area, tt)))
-    (λ κs (area, (DesignCapacity, (full, (remaining, (DesignVoltage, (MaxError, (CycleCount, (ManufactureDate, (SerialNumber, (ChargingCurrent, (ChargingVoltage, (TemperatureLimit, (DischargeLimit, (voltage, (current, (temperature, (counter, _))))))))))))))))). (startNumber (now area) (setUpOf (setupWith DesignCapacity full remaining DesignVoltage MaxError CycleCount ManufactureDate SerialNumber ChargingCurrent ChargingVoltage TemperatureLimit DischargeLimit) (sampleWith voltage current temperature counter)), (startArea (now area) (setUpOf (setupWith DesignCapacity full remaining DesignVoltage MaxError CycleCount ManufactureDate SerialNumber ChargingCurrent ChargingVoltage TemperatureLimit DischargeLimit) (sampleWith voltage current temperature counter)), tt)))
+    (λ κs r (area, (_, (_, (_, (_, (_, (_, (_, (_, (_, (_, (_, (_, (_, (_, (_, (_, (_, _)))))))))))))))))). (r, (now area, tt)))
+    (λ κs (area, (DesignCapacity, (full, (remaining, (DesignVoltage, (MaxError, (CycleCount, (ManufactureDate, (SerialNumber, (ChargingCurrent, (ChargingVoltage, (TemperatureLimit, (DischargeLimit, (plain, (voltage, (current, (temperature, (counter, _)))))))))))))))))). (startNumber (now area) (setUpOf (setupWith DesignCapacity full remaining DesignVoltage MaxError CycleCount ManufactureDate SerialNumber ChargingCurrent ChargingVoltage TemperatureLimit DischargeLimit plain) (sampleWith voltage current temperature counter)), (startArea (now area) (setUpOf (setupWith DesignCapacity full remaining DesignVoltage MaxError CycleCount ManufactureDate SerialNumber ChargingCurrent ChargingVoltage TemperatureLimit DischargeLimit plain) (sampleWith voltage current temperature counter)), tt)))
 
 -- `snatchblock_sound`
 abbrev pub snatchblockSoundTerms : Terms snatchblock-sound-owed.ended

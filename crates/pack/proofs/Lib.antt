@@ -1,2 +1,3 @@
 pub mod Kept
 pub mod Soundness
+pub mod Choice

@@ -3,3 +3,4 @@ pub mod Facts
 pub mod Fits
 pub mod Kept
 pub mod Discharge
+pub mod Choice

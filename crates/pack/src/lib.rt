@@ -5,7 +5,7 @@ ghost use Rattle.pack.specs.Kept.{latestOf};
 ghost use Rattle.pack.specs.Discharge.{dischargeEnds};
 use recent::Recent;
 
-// What set-up fixes.
+// What set-up fixes; plain: broadcasts go without PEC.
 pub struct Settings {
     pub DesignCapacity: u16,
     pub DesignVoltage: u16,
@@ -16,6 +16,7 @@ pub struct Settings {
     pub ChargingVoltage: u16,
     pub TemperatureLimit: u16,
     pub DischargeLimit: u16,
+    pub plain: bool,
 }
 
 // What the host wrote.

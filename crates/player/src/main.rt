@@ -21,6 +21,7 @@ fn beginning() -> State {
         ChargingVoltage: 0,
         TemperatureLimit: 0,
         DischargeLimit: 0,
+        plain: false,
     };
     let first = Sample {
         voltage: 14800,

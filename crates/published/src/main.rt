@@ -97,6 +97,7 @@ fn half_full() -> State {
         ChargingVoltage: 0,
         TemperatureLimit: 0,
         DischargeLimit: 0,
+        plain: false,
     };
     let first = Sample {
         voltage: 14800,

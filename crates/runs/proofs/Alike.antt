@@ -10,7 +10,7 @@ use Rattle.bus.proofs.Answers.{refused-no-reply}
 use Rattle.bus.specs.Transact.{packSide, packAfter, asked, transactAnswer, transactReply, transactOf}
 use Rattle.bus_laws.proofs.Exchanges.{served-reply}
 use Rattle.bus_laws.specs.Calls.{Call, result, answer, reply, Reads}
-use Rattle.broadcasts.specs.Broadcasts.{broadcastOf}
+use Rattle.broadcasts.specs.Broadcasts.{broadcastOf, leastRoom}
 use Rattle.clock.specs.Broadcast.{sampledOf, sampleOf, servedSample, refusedSample}
 use Rattle.clock.specs.Sample.{movedOf}
 use Rattle.commands.specs.Answers.{readAnswer, requestAnswer, sideAnswer, served, readBody, sideReply}
@@ -43,7 +43,8 @@ module _ (s t : State) (h : SameBut s t) where
 
   same-sample : (x : Sample) (n : ℕ) → (sampleOf s x n .answer ≡ sampleOf t x n .answer) × (sampleOf s x n .state .pack ≡ sampleOf t x n .state .pack)
   unfolding sampleOf
-  same-sample x n = simp (h .sound-first, h .sound-second) (by-room x (ltb n 16))
+  same-sample x n =
+      simp (h .sound-first, h .sound-second, ap (λ (p : Pack). leastRoom (p .settings .plain)) (h .pack)) (by-room x (ltb n (leastRoom (t .pack .settings .plain))))
 
   sample-sent : (x : Sample) (n : ℕ) → sent s (sample x n) ≡ sent t (sample x n)
   sample-sent x n = ap₂ (λ (a : ℕ) (p : Pack). cond (eqb a 0) (broadcastOf (movedOf p x)) []) (same-sample x n .0) (h .pack)

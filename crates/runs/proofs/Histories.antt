@@ -6,6 +6,7 @@ use mathlib.Core.List.{List, [], _∷_}
 use mathlib.Core.Logic.{inl, inr}
 use mathlib.Core.Path.{_≡_, refl, sym, ap, _∙_, subst⁻¹}
 use lib.Dec.{eqb, ltb}
+use Rattle.broadcasts.specs.Broadcasts.{leastRoom}
 use Rattle.bus.specs.Transact.{packAfter, asked, transactOf}
 use Rattle.bus_laws.proofs.Served as calls
 use Rattle.bus_laws.proofs.Soundness.{sound-stays}
@@ -93,7 +94,7 @@ took s x n a =
       is-accepted = a;
       one = ap (λ (b : Bool). cond b (x ∷ []) []) a;
       time = ap (λ (b : Bool). cond b (elapsedOf (x .counter) (s .pack .latest .counter)) 0) a;
-      pack = accepted-pack s x (not (soundOf s)) (ltb n 16) a;
+      pack = accepted-pack s x (not (soundOf s)) (ltb n (leastRoom (s .pack .settings .plain))) a;
     }
 
 -- any event that isn't an accepted sample

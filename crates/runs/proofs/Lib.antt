@@ -13,3 +13,4 @@ pub mod Modes
 pub mod Sent
 pub mod Alike
 pub mod Chatter
+pub mod Choice

@@ -2,16 +2,17 @@
 -- Assumes nothing.
 use Prim.Native.Nat.{ℕ, _≤_}
 use mathlib.Core.Bool.{Bool, true, false, cond, not}
-use mathlib.Core.Path.{_≡_, refl, ap, _∙_}
+use mathlib.Core.Path.{_≡_, refl, ap, ap₂, _∙_}
 use borrow.Author.Tests.{le-ltb}
-use lib.Dec.{eqb, ltb}
+use lib.Dec.{eqb}
 use lib.IntN.{pos}
 use mir.Syntax.{w16}
 use mir.Val.{ofZ}
 use Rattle.alarms.specs.Alarms.{chargeFull}
+use Rattle.broadcasts.specs.Broadcasts.{leastRoom}
 use Rattle.clock.specs.Broadcast.{sampledOf, sampleOf, servedSample, refusedSample}
 use Rattle.clock.specs.Sample.{movedOf}
-use Rattle.clock.specs.declared.Sampled.{Sampled}
+use Rattle.clock.proofs.Outcome.{outcome}
 use Rattle.clock_laws.specs.Steps.{gap}
 use Rattle.pack.proofs.Soundness.{toward-fact, run-facts, parts, pack-of-sound}
 use Rattle.pack.specs.Kept.{latestOf}
@@ -44,23 +45,15 @@ rested s x c h =
     let k = at-rest (p .settings) (p .tank) (latestOf x) (gap p x) (no-word x c) (tank-of s h) (toward-fact (p .settings .DesignCapacity) (p .tank .toward) (f .toward)) in
     (k .0, k .1, k .2, k .3, run-at-rest (p .settings) (p .tank) (latestOf x) (gap p x) (no-word x c) (tank-of s h) (run-facts (p .tank .run) (f .run)))
 
--- refused for the state or for the room it leaves all as it was
-by-answer : (s : State) (x : Sample) (b t : Bool) → (b ≡ true → sampledOf (s .pack) x .tank .charge ≡ s .pack .tank .charge)
-    → cond {A = Sampled} (not b) (refusedSample 1 s) (cond t (refusedSample 2 s) (servedSample s x)) .state .pack .tank .charge ≡ s .pack .tank .charge
-by-answer s x false t f = refl
-by-answer s x true true f = refl
-by-answer s x true false f = f refl
-
 pub no-current-no-charge : NoCurrentNoCharge
-unfolding sampleOf
-no-current-no-charge s x n c = by-answer s x (soundOf s) (ltb n 16) (λ h. rested s x c h .0)
+no-current-no-charge s x n c = outcome (λ r. r .state .pack .tank .charge ≡ s .pack .tank .charge) s x n refl refl (λ h. rested s x c h .0)
 
 -- a sample on a sound state with room enough is accepted
-served : (s : State) (x : Sample) (n : ℕ) → soundOf s ≡ true → 16 ≤ n → answerTo s (sample x n) ≡ 0
+served : (s : State) (x : Sample) (n : ℕ) → soundOf s ≡ true → leastRoom (s .pack .settings .plain) ≤ n → answerTo s (sample x n) ≡ 0
 unfolding sampleOf
 served s x n h room =
-    ap (λ (b : Bool). cond (not b) (refusedSample 1 s) (cond (ltb n 16) (refusedSample 2 s) (servedSample s x)) .answer) h
-    ∙ ap (λ (b : Bool). cond b (refusedSample 2 s) (servedSample s x) .answer) (le-ltb n 16 room)
+    ap₂ (λ (sound : Bool) (small : Bool). cond (not sound) (refusedSample 1 s) (cond small (refusedSample 2 s) (servedSample s x)) .answer) h
+    (le-ltb n (leastRoom (s .pack .settings .plain)) room)
 
 pub rest-keeps-charge : RestKeepsCharge
 rest-keeps-charge s x n r =

@@ -7,3 +7,4 @@ pub mod Closes
 pub mod Rest
 pub mod Promises
 pub mod Learned
+pub mod Choice

@@ -13,7 +13,7 @@ use Rattle.broadcasts.specs.Broadcasts.{alarmGoes, chargerGoes}
 use Rattle.clock.specs.Broadcast.{sampleOf, broadcastRoom}
 use Rattle.clock.specs.Sample.{movedOf}
 use Rattle.commands.specs.Answers.{served}
-use Rattle.frame.specs.Broadcasts.{messageOf}
+use Rattle.frame.specs.Broadcasts.{messageTo, sentAs, messageSize}
 use Rattle.frame.specs.Transactions.{replyOf, wordBody}
 use Rattle.alarms.specs.Alarms.{anyAlarm}
 use Rattle.status.specs.Status.{alarmWord}
@@ -145,7 +145,8 @@ SentIsPlaced =
 abbrev pub AlarmIsSent : Type 0
 AlarmIsSent =
     (s : State) (x : Sample) (n : ℕ) → accepted s (sample x n) ≡ true → alarmGoes (movedOf (s .pack) x) ≡ true
-    → take 4 (sent s (sample x n)) ≡ messageOf 0x10 0x16 (alarmWord (movedOf (s .pack) x))
+    → let plain = s .pack .settings .plain in
+    take (messageSize plain) (sent s (sample x n)) ≡ sentAs plain (messageTo 0x10 0x16 (alarmWord (movedOf (s .pack) x)))
 
 -- an alarm in every 11 s: from any sound state a history of 10 s or more has one in its first 11 s
 abbrev pub AlarmIn11s : Type 0

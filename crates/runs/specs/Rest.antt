@@ -7,6 +7,7 @@ use mathlib.Core.List.{List, _∷_}
 use mathlib.Core.Path.{_≡_}
 use lib.IntN.{pos}
 use Rattle.alarms.specs.Alarms.{chargeFull}
+use Rattle.broadcasts.specs.Broadcasts.{leastRoom}
 use Rattle.pack.specs.Sound.{soundOf}
 use Rattle.pack.specs.declared.Sample.{Sample}
 use Rattle.pack.specs.declared.State.{State}
@@ -23,7 +24,7 @@ NoCurrentNoCharge =
 pub record Rest (s : State) (x : Sample) (n : ℕ) : Type 0 where
   pub sound : soundOf s ≡ true
   pub no-current : x .current ≡ pos 0
-  pub room : 16 ≤ n
+  pub room : leastRoom (s .pack .settings .plain) ≤ n
 
 -- it is accepted, what the tank holds stays, below full the run too, its reading is the latest, and the state is sound
 pub record Rested (s : State) (x : Sample) (n : ℕ) : Type 0 where

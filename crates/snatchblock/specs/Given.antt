@@ -1,5 +1,6 @@
 -- What C gives one by one, put together. Definitions: assumes nothing.
 use Prim.Native.Nat.{ℕ}
+use mathlib.Core.Bool.{Bool}
 use lib.IntN.{ℤ}
 use Rattle.pack.specs.declared.Sample.{Sample}
 use Rattle.start.specs.declared.Setup.{Setup}
@@ -8,8 +9,8 @@ abbrev pub sampleWith : ℕ → ℤ → ℕ → ℕ → Sample
 sampleWith voltage current temperature counter =
     record { voltage = voltage; current = current; temperature = temperature; counter = counter }
 
-abbrev pub setupWith : ℕ → ℕ → ℕ → ℕ → ℕ → ℕ → ℕ → ℕ → ℕ → ℕ → ℕ → ℕ → Setup
-setupWith DesignCapacity full remaining DesignVoltage MaxError CycleCount ManufactureDate SerialNumber ChargingCurrent ChargingVoltage TemperatureLimit DischargeLimit =
+abbrev pub setupWith : ℕ → ℕ → ℕ → ℕ → ℕ → ℕ → ℕ → ℕ → ℕ → ℕ → ℕ → ℕ → Bool → Setup
+setupWith DesignCapacity full remaining DesignVoltage MaxError CycleCount ManufactureDate SerialNumber ChargingCurrent ChargingVoltage TemperatureLimit DischargeLimit plain =
     record {
       DesignCapacity = DesignCapacity;
       full = full;
@@ -23,4 +24,5 @@ setupWith DesignCapacity full remaining DesignVoltage MaxError CycleCount Manufa
       ChargingVoltage = ChargingVoltage;
       TemperatureLimit = TemperatureLimit;
       DischargeLimit = DischargeLimit;
+      plain = plain;
     }

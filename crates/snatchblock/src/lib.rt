@@ -166,13 +166,14 @@ pub extern "C" fn snatchblock_set_up(
     ChargingVoltage: u16,
     TemperatureLimit: u16,
     DischargeLimit: u16,
+    plain: bool,
     voltage: u16,
     current: i16,
     temperature: u16,
     counter: u32,
 ) -> u32
-    ensures { λ r. ⌜ r ≡ startNumber (now (area .entry)) (setUpOf (setupWith DesignCapacity full remaining DesignVoltage MaxError CycleCount ManufactureDate SerialNumber ChargingCurrent ChargingVoltage TemperatureLimit DischargeLimit) (sampleWith voltage current temperature counter)) ⌝ }
-    ensures { λ _. ⌜ now (area .exit) ≡ startArea (now (area .entry)) (setUpOf (setupWith DesignCapacity full remaining DesignVoltage MaxError CycleCount ManufactureDate SerialNumber ChargingCurrent ChargingVoltage TemperatureLimit DischargeLimit) (sampleWith voltage current temperature counter)) ⌝ }
+    ensures { λ r. ⌜ r ≡ startNumber (now (area .entry)) (setUpOf (setupWith DesignCapacity full remaining DesignVoltage MaxError CycleCount ManufactureDate SerialNumber ChargingCurrent ChargingVoltage TemperatureLimit DischargeLimit plain) (sampleWith voltage current temperature counter)) ⌝ }
+    ensures { λ _. ⌜ now (area .exit) ≡ startArea (now (area .entry)) (setUpOf (setupWith DesignCapacity full remaining DesignVoltage MaxError CycleCount ManufactureDate SerialNumber ChargingCurrent ChargingVoltage TemperatureLimit DischargeLimit plain) (sampleWith voltage current temperature counter)) ⌝ }
 {
     let setup = Setup {
         DesignCapacity: DesignCapacity,
@@ -187,6 +188,7 @@ pub extern "C" fn snatchblock_set_up(
         ChargingVoltage: ChargingVoltage,
         TemperatureLimit: TemperatureLimit,
         DischargeLimit: DischargeLimit,
+        plain: plain,
     };
     let first = Sample {
         voltage: voltage,

@@ -17,7 +17,8 @@ use Rattle.capture.specs.Walk.{openedOf, stepAt, answerOf}
 use Rattle.capture.specs.declared.Opened.{Opened}
 use Rattle.capture.specs.declared.Step.{Step}
 use Rattle.capture.specs.declared.Step.the-variants.{Next, End, NotCapture}
-use Rattle.clock.specs.Broadcast.{refusedSample, servedSample, sampleOf}
+use Rattle.clock.proofs.Outcome.{outcome}
+use Rattle.clock.specs.Broadcast.{sampleOf}
 use Rattle.clock.specs.declared.Sampled.{Sampled}
 use Rattle.commands.specs.Answers.{sideReply}
 use Rattle.frame.specs.declared.Request.{Request}
@@ -25,7 +26,6 @@ use Rattle.frame.specs.declared.Request.the-variants.{Refused, Read, Write}
 use Rattle.names.specs.Names.{nameIn, plainWrote}
 use Rattle.key.specs.Key.{Parts, readKey, readOf}
 use Rattle.key_writer.specs.Writing.{refused, keyWrote}
-use Rattle.pack.specs.Sound.{soundOf}
 use Rattle.pack.specs.declared.Sample.{Sample}
 use Rattle.pack.specs.declared.State.{State}
 use Rattle.packed.proofs.Choice.{chosen}
@@ -101,12 +101,7 @@ shelf-bare table room =
 -- ---- the pack
 
 sampled-bare : (s : State) (x : Sample) (n : ℕ) → Bare (sampleOf s x n .answer) (packed (sampleOf s x n .answer) (sampleOf s x n .length))
-unfolding sampleOf
-sampled-bare s x n =
-    chosen P (not (soundOf s)) (λ _ _. omega arith) (λ _. chosen P (ltb n 16) {x = refusedSample 2 s} {y = servedSample s x} (λ _ _. omega arith) (λ _. served-bare))
-  where
-    P : Sampled → Type 0
-    P r = Bare (r .answer) (packed (r .answer) (r .length))
+sampled-bare s x n = outcome (λ r. Bare (r .answer) (packed (r .answer) (r .length))) s x n (λ _. omega arith) (λ _. omega arith) (λ _. served-bare)
 
 pub sample-bare : SampleBare
 unfolding sampleNumber

@@ -22,7 +22,7 @@ abbrev pub setUpRefused : Setup → Bool
 setUpRefused u =
     eqb (u .DesignCapacity) 0 || eqb (u .full) 0 || eqb (u .DesignVoltage) 0 || ltb (u .full) (u .remaining)
 
--- what set-up fixes (RULES 3.9)
+-- what set-up fixes, the choice plain among it (RULES 3.9, 8.7)
 abbrev pub settingsOf : Setup → Settings
 settingsOf u =
     record {
@@ -35,6 +35,7 @@ settingsOf u =
       ChargingVoltage = u .ChargingVoltage;
       TemperatureLimit = u .TemperatureLimit;
       DischargeLimit = u .DischargeLimit;
+      plain = u .plain;
     }
 
 -- 00 and 04 first 0; 01 first floor(design/10); 02 first 10; the bits of 03 first 0 (RULES 3.10)
@@ -92,6 +93,7 @@ zeroSettings =
       ChargingVoltage = 0;
       TemperatureLimit = 0;
       DischargeLimit = 0;
+      plain = false;
     }
 
 abbrev pub zeroHost : Host

@@ -12,7 +12,7 @@ use pack::State;
 use pack::Tank;
 use pack::Timers;
 
-// What set-up brings beside the first sample; capacities in mAh.
+// What set-up brings beside the first sample; capacities in mAh; plain: broadcasts without PEC are asked for.
 pub struct Setup {
     pub DesignCapacity: u16,
     pub full: u16,
@@ -26,6 +26,7 @@ pub struct Setup {
     pub ChargingVoltage: u16,
     pub TemperatureLimit: u16,
     pub DischargeLimit: u16,
+    pub plain: bool,
 }
 
 pub struct Started {
@@ -46,6 +47,7 @@ fn zero_settings() -> Settings
         ChargingVoltage: 0,
         TemperatureLimit: 0,
         DischargeLimit: 0,
+        plain: false,
     }
 }
 
@@ -138,6 +140,7 @@ fn settings_of(u: Setup) -> Settings
         ChargingVoltage: u.ChargingVoltage,
         TemperatureLimit: u.TemperatureLimit,
         DischargeLimit: u.DischargeLimit,
+        plain: u.plain,
     }
 }
 

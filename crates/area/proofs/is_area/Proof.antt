@@ -9,13 +9,23 @@ returns : tie.Need-returns
 returns c = rw (ne-eqb _ _ (c .if1 .taken))
 
 returns-2 : tie.Need-returns-2
-returns-2 c = rw (eq-eqb _ _ (c .before .before .before .before .if1 .left), c .before .before .is-host .ensures, c .is-tank .ensures)
+returns-2 c =
+    rw (
+      eq-eqb _ _ (c .before .before .before .before .before .before .if1 .left),
+      c .before .before .before .before .is-settings .ensures,
+      c .before .before .is-host .ensures,
+      c .is-tank .ensures,
+    )
 
 pub is-area-spec : {M : Type 1} → statement M
 is-area-spec =
     tie.close
     (tie.spec
     returns
+    (λ c. search needs)
+    (λ c. search needs)
+    (λ c. search needs)
+    (λ c κs. search needs)
     (λ c. search needs)
     (λ c. search needs)
     (λ c. search needs)

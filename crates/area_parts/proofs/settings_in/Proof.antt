@@ -1,13 +1,11 @@
 -- `area_parts::settings_in` meets its contract.
 -- Assumes nothing.
 use borrow.Author.Needs.{needs}
-use mathlib.Core.Path.{ap}
-use Rattle.area_parts.specs.Parts.{settingsFrom}
 use Rattle.area_parts.proofs.settings_in.Statement.{statement}
 use Rattle.area_parts.proofs.settings_in.Tie as tie
 
 returns : tie.Need-returns
-returns c = ap settingsFrom (c .before .words-at .ensures)
+returns c = rw (c .before .before .words-at .ensures, c .byte-at .ensures)
 
 pub settings-in-spec : {M : Type 1} → statement M
 settings-in-spec =
@@ -24,4 +22,5 @@ settings-in-spec =
     (λ c. search needs)
     (λ c. search needs)
     (λ c. search needs)
+    (λ c κs. search needs)
     returns)

@@ -15,7 +15,7 @@ returns : tie.Need-returns
 returns c =
     let start = c .before .before .before .before .before in
     let a = start .args in
-    let setup : Setup = setupWith (a .DesignCapacity) (a .full) (a .remaining) (a .DesignVoltage) (a .MaxError) (a .CycleCount) (a .ManufactureDate) (a .SerialNumber) (a .ChargingCurrent) (a .ChargingVoltage) (a .TemperatureLimit) (a .DischargeLimit) in
+    let setup : Setup = setupWith (a .DesignCapacity) (a .full) (a .remaining) (a .DesignVoltage) (a .MaxError) (a .CycleCount) (a .ManufactureDate) (a .SerialNumber) (a .ChargingCurrent) (a .ChargingVoltage) (a .TemperatureLimit) (a .DischargeLimit) (a .plain) in
     let same = same-sample (a .voltage) (a .temperature) (a .counter) (start .fits .current) in
     let done = c .before .before .set-up .ensures in (
       done .0 ∙ ap (λ (x : Sample). startNumber (a .area .now) (setUpOf setup x)) same,
