@@ -1,19 +1,19 @@
 -- A history event by event, and what is carried from its first state to its last.
 -- Assumes nothing.
 use Prim.Native.Nat.{ℕ, _+_}
-use mathlib.Core.Bool.{Bool, true, false, cond, not, true≢false}
+use mathlib.Core.Bool.{Bool, true, false, cond, true≢false}
 use mathlib.Core.List.{List, [], _∷_}
 use mathlib.Core.Logic.{inl, inr}
 use mathlib.Core.Path.{_≡_, refl, sym, ap, _∙_, subst⁻¹}
-use lib.Dec.{eqb, ltb}
-use Rattle.broadcasts.specs.Broadcasts.{leastRoom}
+use lib.Dec.{eqb}
 use Rattle.bus.specs.Transact.{packAfter, asked, transactOf}
 use Rattle.bus_laws.proofs.Served as calls
 use Rattle.bus_laws.proofs.Soundness.{sound-stays}
 use Rattle.bus_laws.specs.Calls.{Call, result, answer, Writes}
-use Rattle.clock.specs.Broadcast.{sampledOf, sampleOf, servedSample, refusedSample}
+use Rattle.clock.proofs.Outcome.{outcome}
+use Rattle.clock.specs.Broadcast.{sampledOf}
 use Rattle.clock.specs.Sample.{elapsedOf}
-use Rattle.clock_laws.proofs.Sound.{sample-sound, outcome}
+use Rattle.clock_laws.proofs.Sound.{sample-sound}
 use Rattle.clock_laws.specs.Steps.{gap}
 use Rattle.commands.specs.Answers.{served}
 use Rattle.frame_laws.proofs.Requests.{write-is}
@@ -51,7 +51,7 @@ tank-of s h = tank-facts (s .pack .tank) (parts (s .pack) (pack-of-sound s h) .t
 
 pub idle-keeps : (s : State) (e : Event) → IdleEvent s e → step s e .pack ≡ s .pack
 idle-keeps s (sample x n) i =
-    outcome (λ r. eqb (r .answer) 0 ≡ false → r .state .pack ≡ s .pack) s x n (λ a z. refl) (λ h z. absurd (true≢false z)) i
+    outcome (λ r. eqb (r .answer) 0 ≡ false → r .state .pack ≡ s .pack) s x n (λ z. refl) (λ z. refl) (λ h z. absurd (true≢false z)) i
 idle-keeps s (call c) i = calls.idle-keeps s c i
 
 pub idle-keep : IdleKeep
@@ -81,20 +81,15 @@ call-left s c = go (asked (c .read) (c .bytes)) refl
         let b = write-is 0x16 (c .read) (c .bytes) command word checked .0 e in
         by-write command word (b .0, (checked, b .1)) (served (answer s c)) refl
 
-accepted-pack : (s : State) (x : Sample) (unsound small : Bool)
-    → let r = cond unsound (refusedSample 1 s) (cond small (refusedSample 2 s) (servedSample s x)) in eqb (r .answer) 0 ≡ true → r .state .pack ≡ sampledOf (s .pack) x
-accepted-pack s x true small a = absurd (true≢false (sym a))
-accepted-pack s x false true a = absurd (true≢false (sym a))
-accepted-pack s x false false a = refl
-
 pub took : (s : State) (x : Sample) (n : ℕ) → accepted s (sample x n) ≡ true → Took s x n
-unfolding sampleOf
 took s x n a =
     record {
       is-accepted = a;
       one = ap (λ (b : Bool). cond b (x ∷ []) []) a;
       time = ap (λ (b : Bool). cond b (elapsedOf (x .counter) (s .pack .latest .counter)) 0) a;
-      pack = accepted-pack s x (not (soundOf s)) (ltb n (leastRoom (s .pack .settings .plain))) a;
+      pack =
+          outcome (λ r. eqb (r .answer) 0 ≡ true → r .state .pack ≡ sampledOf (s .pack) x) s x n (λ z. absurd (true≢false (sym z))) (λ z. absurd (true≢false (sym z)))
+          (λ h z. refl) a;
     }
 
 -- any event that isn't an accepted sample
