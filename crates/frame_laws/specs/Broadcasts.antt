@@ -35,7 +35,12 @@ MessageRight = (m : Message) → Right (sentAs false m)
 abbrev pub MessagesTell : Type 0
 MessagesTell = (plain : Bool) (m n : Message) → sentAs plain m ≡ sentAs plain n → m ≡ n
 
--- with PEC they differ in at least four bits
+-- and up to four of them in a row, in either form, are told by their bytes
+abbrev pub RowsTell : Type 0
+RowsTell =
+    (a b : Bool) (ms ns : List Message) → length ms ≤ 4 → length ns ≤ 4 → allSent a ms ≡ allSent b ns → ms ≡ ns
+
+-- with PEC two different messages differ in at least four bits
 abbrev pub TwoMessages : Type 0
 TwoMessages =
     (m n : Message) → MessageFits m → MessageFits n → (m ≡ n → ⊥) → 4 ≤ bitsApart (sentAs false m) (sentAs false n)

@@ -9,13 +9,14 @@ use lib.Dec.{eqb, ltb}
 use lib.ListN.{length, getD, take, drop}
 use lib.Seq.{take-at}
 use Rattle.alarms.specs.Alarms.{terminateCharge, chargerAlarm, chargingCurrent}
+use Rattle.broadcasts.proofs.Sending.{four-at-most}
 use Rattle.broadcasts.specs.Broadcasts.{alarmGoes, chargerGoes, alarmsOf, chargerWordsOf, messagesOf, broadcastOf, leastRoom}
 use Rattle.clock.specs.Broadcast.{sampleOf, broadcastRoom, servedSample, refusedSample}
 use Rattle.clock.specs.Sample.{movedOf}
 use Rattle.clock.proofs.Outcome.{outcome}
 use Rattle.frame.specs.Broadcasts.{messageTo, sentAs, messageSize, allSent}
 use Rattle.frame.specs.declared.Message.{Message}
-use Rattle.frame_laws.proofs.Broadcasts.{message-at, message-right}
+use Rattle.frame_laws.proofs.Broadcasts.{message-at, message-right, rows-tell}
 use Rattle.frame_laws.specs.Broadcasts.{MessageFits, AllFit}
 use Rattle.gauge_laws.proofs.Bits.{status-most}
 use Rattle.gauge_laws.proofs.Range.{pick}
@@ -27,7 +28,7 @@ use Rattle.pack.specs.Sound.{soundOf}
 use Rattle.pack.specs.declared.Pack.{Pack}
 use Rattle.pack.specs.declared.Sample.{Sample}
 use Rattle.pack.specs.declared.State.{State}
-use Rattle.runs.specs.Choice.{EachRight, MessagesFit}
+use Rattle.runs.specs.Choice.{EachRight, MessagesFit, BroadcastsTell}
 use Rattle.runs.specs.Promises.{SentIsPlaced, AlarmIsSent}
 
 by-tests : (s : State) (x : Sample) (room : List ℕ) (unsound small : Bool)
@@ -93,3 +94,6 @@ messages-fit s x f =
     (few-fit (chargerGoes q) true (messageTo 0x12 0x14 (chargingCurrent q)) (messageTo 0x12 0x15 (q .settings .ChargingVoltage))
     (record { address = omega arith; command = omega arith; word = current })
     (record { address = omega arith; command = omega arith; word = f .settings .ChargingVoltage }))
+
+pub broadcasts-tell : BroadcastsTell
+broadcasts-tell p q = rows-tell (p .settings .plain) (q .settings .plain) (messagesOf p) (messagesOf q) (four-at-most p) (four-at-most q)

@@ -5,13 +5,14 @@ use mathlib.Core.Bool.{Bool, true, false}
 use mathlib.Core.List.{List, [], _∷_, map}
 use mathlib.Core.Path.{_≡_}
 use lib.ListN.{take, drop}
-use Rattle.broadcasts.specs.Broadcasts.{messagesOf}
+use Rattle.broadcasts.specs.Broadcasts.{messagesOf, broadcastOf}
 use Rattle.bus_laws.specs.Calls.{reply}
 use Rattle.clock.specs.Broadcast.{sampleOf}
 use Rattle.clock.specs.Sample.{movedOf}
 use Rattle.frame_laws.specs.Broadcasts.{AllFit, withoutPec}
 use Rattle.pack.specs.Choice.{stateAs}
 use Rattle.pack.specs.Fits.{PackFits}
+use Rattle.pack.specs.declared.Pack.{Pack}
 use Rattle.pack.specs.declared.Sample.{Sample}
 use Rattle.pack.specs.declared.State.{State}
 use Rattle.pec.specs.Messages.{Right}
@@ -81,3 +82,7 @@ EachRight =
 -- the fields of a sample's messages hold what their types let them hold, as the theorems on messages ask, where the pack's do
 abbrev pub MessagesFit : Type 0
 MessagesFit = (s : State) (x : Sample) → PackFits (s .pack) → AllFit (messagesOf (movedOf (s .pack) x))
+
+-- two packs whose broadcasts are the same bytes sent the same messages, whatever the choice of each
+abbrev pub BroadcastsTell : Type 0
+BroadcastsTell = (p q : Pack) → broadcastOf p ≡ broadcastOf q → messagesOf p ≡ messagesOf q
