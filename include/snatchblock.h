@@ -21,7 +21,7 @@
  * the area, that the loop makes; the bus hardware holds the clock meanwhile. Calls on other areas may run beside it.
  *
  * Stack, in bytes, the most that was measured of each (`make bench`, x86-64; nothing proves it): transact 3,984;
- * sample 2,288; read_key 1,752; unescape 1,656; sound 784; exchange_check 312; pec 280; write_sheet 128; set_up 112;
+ * sample 2,304; read_key 1,752; unescape 1,656; sound 784; exchange_check 312; pec 280; write_sheet 128; set_up 128;
  * block 104; shelf_report 80; write_key 56; bit_comparison, is_sheet, open_capture, step_capture 16.
  */
 #ifndef SNATCHBLOCK_H
