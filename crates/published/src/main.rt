@@ -236,7 +236,7 @@ fn key_of(label: &[u8]) {
 
 // The state after a current flowed up to a reading of the counter.
 fn sampled(s: State, current: i16, counter: u32) -> State {
-    let mut room = [0u8; 16];
+    let mut room = [0u8; 20];
     let next = Sample {
         voltage: 14800,
         current: current,
