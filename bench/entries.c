@@ -310,7 +310,7 @@ struct entry {
     char name[32];
     void (*call[3])(void); /* p, c, s */
     size_t size;
-    bool reading, power, with_pec;
+    bool reading, power, with_pec, beyond;
     uint8_t command;
 };
 static struct entry entries[112];
@@ -342,6 +342,14 @@ static struct entry *add_command(const char *name, bool read, uint8_t command)
     return e;
 }
 
+/* A read of minutes that are cut off. */
+static void add_beyond(uint8_t command)
+{
+    struct entry *e = add_command("read", true, command);
+    e->beyond = true;
+    snprintf(e->name, sizeof e->name, "read-%02X-beyond", command);
+}
+
 static void make_entries(void)
 {
     static const size_t lengths[] = {2, 3, 4, 5, 6, 8, 10, 12, 16, 24, 37, 65536};
@@ -353,6 +361,7 @@ static void make_entries(void)
     static const uint8_t in_power_mode[] = {0x07, 0x0F, 0x10, 0x11, 0x12, 0x13, 0x18};
     for (size_t i = 0; i < sizeof in_power_mode; i++)
         add_command("power-read", true, in_power_mode[i])->power = true;
+    add_beyond(0x06);
     for (uint8_t command = 0x20; command <= 0x23; command++)
         add_command("block-read", true, command);
     for (uint8_t command = 0; command <= 4; command++)
@@ -431,6 +440,8 @@ static void prepare(const struct entry *e)
     state = start_state;
     if (e->power)
         write_both(area, &state, 0x03, 0x8000);
+    if (e->beyond)
+        write_both(area, &state, 0x04, 0xFFFF); /* AtRate -1 */
     if (e->with_pec)
         area[SNATCHBLOCK_PLAIN] = state.settings.plain = false;
     counter = 60000;

@@ -52,7 +52,8 @@ enum snatchblock_answer {
     SNATCHBLOCK_COMMAND_NOT_BUILT = 7, /* an optional command that this pack hasn't (3, UnsupportedCommand) */
     SNATCHBLOCK_READ_ONLY = 8,         /* a write to what is only read (4, AccessDenied) */
     SNATCHBLOCK_BAD_SHEET = 9,         /* a block read, and one of the two sheets is none (7) */
-    SNATCHBLOCK_SERVED_FFFF = 10,      /* AtRateTimeToFull in power mode: FF FF and PEC (5, Overflow/Underflow) */
+    SNATCHBLOCK_SERVED_CUT_OFF = 10,   /* minutes beyond the range (65,534, FE FF), or AtRateTimeToFull in power mode
+                                          (FF FF): word and PEC are sent (5, Overflow/Underflow) */
     SNATCHBLOCK_BAD_SET_UP = 11,       /* DesignCapacity, full or DesignVoltage is 0, or remaining is above full */
     SNATCHBLOCK_NO_FIT = 12,           /* a name or body over 32 bytes, or a room too short for what is to be written */
     SNATCHBLOCK_NOT_A_KEY = 13,
@@ -298,6 +299,10 @@ static inline size_t snatchblock_message_length(const uint8_t area[SNATCHBLOCK_A
  * count, its bytes, PEC. On any other answer send nothing, and don't acknowledge where the hardware still can; the host
  * finds the error code in BatteryStatus. 1 to 3 leave the area as it was, 4 to 9 change only that code, its first byte.
  * 1 is for the firmware: the area is lost. So is 2: its room is too small.
+ *
+ * A time (05, 06, 11, 12, 13) is whole minutes up to 65,534. What is beyond, or flows the command's way at a power rate
+ * that rounds to 0, shows 65,534 too and is answered 10: the error code, read next, tells a host that the word was cut
+ * off. 65,535 with answer 0: nothing flows that way. 05 in power mode has no minutes: 65,535 with answer 10.
  *
  * Two sheets hold the names that block reads (20 to 23) show; the service sheet goes before the factory sheet. For no
  * names lend the one byte 00, a sheet too. No bytes are no sheet: every block read is then answered 9.

@@ -3,7 +3,7 @@
 
 #include <string.h>
 
-enum { WRITE_ADDRESS = 0x16, READ_ADDRESS = 0x17, AT_RATE_TIME_TO_FULL = 0x05 };
+enum { WRITE_ADDRESS = 0x16, READ_ADDRESS = 0x17 };
 
 #define RE SB2_KIND_RESERVED
 #define OP SB2_KIND_OPTIONAL
@@ -23,9 +23,8 @@ enum sb2_kind sb2_kind_of(uint8_t command)
     return command < 64 ? (enum sb2_kind)kinds[command] : SB2_KIND_RESERVED;
 }
 
-/* The lowest number from 3 to 10 whose condition holds, else 0 (rule: Answer numbers). */
-static int judge(const struct sb2_state *s, bool read, struct sb2_bytes message, struct sb2_bytes service,
-                 struct sb2_bytes factory)
+/* The lowest number from 3 to 9 whose condition holds, else 0 (rule: Answer numbers). */
+static int judge(bool read, struct sb2_bytes message, struct sb2_bytes service, struct sb2_bytes factory)
 {
     if (message.length == 0 || message.at[0] != WRITE_ADDRESS)
         return SB2_NOT_FOR_PACK;
@@ -36,8 +35,7 @@ static int judge(const struct sb2_state *s, bool read, struct sb2_bytes message,
         if (sb2_pec(before) != message.at[4])
             return SB2_WRONG_PEC;
     }
-    uint8_t command = message.at[1];
-    enum sb2_kind kind = sb2_kind_of(command);
+    enum sb2_kind kind = sb2_kind_of(message.at[1]);
     if (kind == SB2_KIND_RESERVED)
         return SB2_RESERVED;
     if (kind == SB2_KIND_OPTIONAL)
@@ -46,8 +44,6 @@ static int judge(const struct sb2_state *s, bool read, struct sb2_bytes message,
         return SB2_READ_ONLY;
     if (kind == SB2_KIND_READ_BLOCK && !(sb2_sheet_good(service) && sb2_sheet_good(factory)))
         return SB2_BAD_SHEET;
-    if (command == AT_RATE_TIME_TO_FULL && s->host.capacity_mode)
-        return SB2_OVERFLOW;
     return SB2_SERVED;
 }
 
@@ -94,30 +90,50 @@ static void write_word(struct sb2_state *s, uint8_t command, uint16_t word)
     }
 }
 
-/* Puts a word or a block and the PEC over request and reply (rule: Transactions). */
-static size_t put_reply(const struct sb2_state *s, struct sb2_bytes message, struct sb2_bytes service,
-                        struct sb2_bytes factory, uint8_t *room)
+/* Puts a block, its count and its bytes; gives how many bytes that are (rule: Transactions). */
+static size_t put_block(uint8_t command, struct sb2_bytes service, struct sb2_bytes factory, uint8_t *room)
 {
-    uint8_t command = message.at[1];
-    size_t place = 0;
-    if (sb2_kind_of(command) == SB2_KIND_READ_BLOCK) {
-        struct sb2_block block;
-        (void)sb2_sheet_block(service, factory, command, &block);
-        const uint8_t *sheet = block.in_service ? service.at : factory.at;
-        room[place++] = (uint8_t)block.part.length;
-        for (size_t i = 0; i < block.part.length; i++)
-            room[place++] = sheet[block.part.offset + i];
-    } else {
-        uint16_t word = sb2_register(s, command);
-        room[place++] = (uint8_t)(word & 0xFF);
-        room[place++] = (uint8_t)(word >> 8);
-    }
+    struct sb2_block block;
+    (void)sb2_sheet_block(service, factory, command, &block);
+    const uint8_t *sheet = block.in_service ? service.at : factory.at;
+    room[0] = (uint8_t)block.part.length;
+    for (size_t i = 0; i < block.part.length; i++)
+        room[1 + i] = sheet[block.part.offset + i];
+    return 1 + block.part.length;
+}
+
+/* Puts a word, low byte first (rule: Transactions). */
+static size_t put_word(uint16_t word, uint8_t *room)
+{
+    room[0] = (uint8_t)(word & 0xFF);
+    room[1] = (uint8_t)(word >> 8);
+    return 2;
+}
+
+/* Puts the PEC over request and reply behind the reply (rule: Transactions). */
+static size_t put_pec(struct sb2_bytes message, uint8_t *room, size_t place)
+{
     uint8_t exchange[SB2_MESSAGE_MOST];
     memcpy(exchange, message.at, 3);
     memcpy(exchange + 3, room, place);
     struct sb2_bytes whole = {exchange, 3 + place};
     room[place] = sb2_pec(whole);
     return place + 1;
+}
+
+/* Puts the reply to a read: answers 10 where its register gave a word that was cut off, else 0 (rules: Transactions;
+ * R-6). */
+static int serve_read(const struct sb2_state *s, struct sb2_bytes message, struct sb2_bytes service,
+                      struct sb2_bytes factory, uint8_t *room, size_t *length)
+{
+    uint8_t command = message.at[1];
+    if (sb2_kind_of(command) == SB2_KIND_READ_BLOCK) {
+        *length = put_pec(message, room, put_block(command, service, factory, room));
+        return SB2_SERVED;
+    }
+    struct sb2_shown shown = sb2_register(s, command);
+    *length = put_pec(message, room, put_word(shown.word, room));
+    return shown.cut_off ? SB2_OVERFLOW : SB2_SERVED;
 }
 
 /* 1, 2, or the message judged and, if served, carried out; then the error code (rule: Transactions). */
@@ -129,13 +145,11 @@ int sb2_transact(struct sb2_state *state, bool read, struct sb2_bytes message, s
         return SB2_NOT_SOUND;
     if (room_length < SB2_REPLY_ROOM)
         return SB2_SMALL_ROOM;
-    int answer = judge(state, read, message, service, factory);
-    if (answer == SB2_SERVED || answer == SB2_OVERFLOW) {
-        if (read)
-            *length = put_reply(state, message, service, factory, room);
-        else
-            write_word(state, message.at[1], (uint16_t)(message.at[2] | message.at[3] << 8));
-    }
+    int answer = judge(read, message, service, factory);
+    if (answer == SB2_SERVED && read)
+        answer = serve_read(state, message, service, factory, room, length);
+    else if (answer == SB2_SERVED)
+        write_word(state, message.at[1], (uint16_t)(message.at[2] | message.at[3] << 8));
     state->error_code = error_left(answer, state->error_code);
     return answer;
 }

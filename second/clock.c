@@ -122,7 +122,7 @@ static void decide_discharged(struct sb2_state *s)
 {
     if (s->tank.charge == 0)
         s->tank.fully_discharged = true;
-    else if (sb2_register(s, 0x0D) >= 20)
+    else if (sb2_register(s, 0x0D).word >= 20)
         s->tank.fully_discharged = false;
 }
 
@@ -165,8 +165,8 @@ static size_t send_charger_words(struct sb2_state *s, uint32_t elapsed, uint8_t 
         return place;
     }
     s->timers.charger = 0;
-    place = put_message(plain, room, place, CHARGER, CHARGING_CURRENT, sb2_register(s, CHARGING_CURRENT));
-    return put_message(plain, room, place, CHARGER, CHARGING_VOLTAGE, sb2_register(s, CHARGING_VOLTAGE));
+    place = put_message(plain, room, place, CHARGER, CHARGING_CURRENT, sb2_register(s, CHARGING_CURRENT).word);
+    return put_message(plain, room, place, CHARGER, CHARGING_VOLTAGE, sb2_register(s, CHARGING_VOLTAGE).word);
 }
 
 /* The room that four messages fill (rule: R-5). */

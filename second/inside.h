@@ -4,8 +4,14 @@
 
 #include "snatchblock2.h"
 
-/* The word that a read of command 00 to 1C shows, 0 for any other (rule: Registers). */
-uint16_t sb2_register(const struct sb2_state *s, uint8_t command);
+/* What a read shows: a word, and whether it was cut off, for it says less than there is (rule: R-6). */
+struct sb2_shown {
+    uint16_t word;
+    bool cut_off;
+};
+
+/* What a read of command 00 to 1C shows, a whole 0 for any other (rules: Registers; R-6). */
+struct sb2_shown sb2_register(const struct sb2_state *s, uint8_t command);
 
 /* The word of BatteryStatus, error code included (rule: Registers, 16). */
 uint16_t sb2_status(const struct sb2_state *s);

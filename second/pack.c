@@ -188,10 +188,38 @@ static int16_t mean_current(const struct sb2_state *s)
     return (int16_t)(sum / ((int64_t)s->minute.count * SB2_SECOND_MS));
 }
 
-/* Whole minutes at a rate, at most 65,534, and so for a rate of 0 (rule: Registers, 06 and 11 to 13). */
-static uint16_t minutes(uint16_t capacity, uint32_t rate)
+/* What a capacity divided by a rate comes to (rule: R-6). */
+enum time_case { MINUTES, BEYOND, NOT_MOVING };
+struct time {
+    enum time_case is;
+    uint16_t minutes; /* 0 to 65,534; 0 in the other cases */
+};
+
+static const struct time beyond = {BEYOND, 0};
+static const struct time not_moving = {NOT_MOVING, 0};
+
+/* Whole minutes at a rate, beyond the range from 65,535 on and at a rate of 0 (rules: Registers, 06, 11 to 13; R-6). */
+static struct time minutes(uint16_t capacity, uint32_t rate)
 {
-    return rate == 0 ? 65534 : capped(UINT64_C(60) * capacity / rate, 65534);
+    if (rate == 0 || UINT64_C(60) * capacity / rate > 65534)
+        return beyond;
+    return (struct time){MINUTES, (uint16_t)(UINT64_C(60) * capacity / rate)};
+}
+
+/* The word of each case (rules: Registers, 06; R-6: the same words as before). */
+static uint16_t time_word(struct time time)
+{
+    switch (time.is) {
+    case MINUTES: return time.minutes;
+    case BEYOND: return 65534;
+    default: return 65535;
+    }
+}
+
+/* Whether the word says less than there is (rule: R-6). */
+static bool time_cut_off(struct time time)
+{
+    return time.is == BEYOND;
 }
 
 /* The rate of a current in the mode's unit, at the latest voltage (rule: Registers, 11 to 13). */
@@ -201,10 +229,10 @@ static uint32_t rate_of(const struct sb2_state *s, int16_t current)
     return s->host.capacity_mode ? size * (uint32_t)s->latest.voltage / 10000 : size;
 }
 
-/* Minutes to empty at a current below 0, else 65,535 (rule: Registers, 11 and 12). */
-static uint16_t time_to_empty(const struct sb2_state *s, int16_t current)
+/* Minutes to empty at a current below 0 (rule: Registers, 11 and 12). */
+static struct time time_to_empty(const struct sb2_state *s, int16_t current)
 {
-    return current < 0 ? minutes(remaining_word(s), rate_of(s, current)) : 65535;
+    return current < 0 ? minutes(remaining_word(s), rate_of(s, current)) : not_moving;
 }
 
 /* What is missing to full, from the words 10 and 0F (rule: Registers, 05 and 13). */
@@ -213,24 +241,22 @@ static uint16_t missing_word(const struct sb2_state *s)
     return (uint16_t)(full_word(s) - remaining_word(s));
 }
 
-/* Minutes to full at a current above 0, else 65,535 (rule: Registers, 13). */
-static uint16_t time_to_full(const struct sb2_state *s, int16_t current)
+/* Minutes to full at a current above 0 (rule: Registers, 13). */
+static struct time time_to_full(const struct sb2_state *s, int16_t current)
 {
-    return current > 0 ? minutes(missing_word(s), rate_of(s, current)) : 65535;
+    return current > 0 ? minutes(missing_word(s), rate_of(s, current)) : not_moving;
 }
 
-/* Minutes to full at AtRate above 0, in mAh alone, else 65,535 (rule: Registers, 05; Answer numbers, 10). */
-static uint16_t at_rate_to_full(const struct sb2_state *s)
+/* Minutes to full at AtRate above 0 (rule: Registers, 05). */
+static struct time at_rate_to_full(const struct sb2_state *s)
 {
-    if (s->host.capacity_mode || s->host.at_rate <= 0)
-        return 65535;
-    return minutes(missing_word(s), size_of(s->host.at_rate));
+    return s->host.at_rate > 0 ? minutes(missing_word(s), size_of(s->host.at_rate)) : not_moving;
 }
 
-/* Minutes to empty at AtRate below 0, else 65,535 (rule: Registers, 06). */
-static uint16_t at_rate_to_empty(const struct sb2_state *s)
+/* Minutes to empty at AtRate below 0 (rule: Registers, 06). */
+static struct time at_rate_to_empty(const struct sb2_state *s)
 {
-    return s->host.at_rate < 0 ? minutes(remaining_word(s), size_of(s->host.at_rate)) : 65535;
+    return s->host.at_rate < 0 ? minutes(remaining_word(s), size_of(s->host.at_rate)) : not_moving;
 }
 
 /* 1 if AtRate isn't below 0 or charge covers 10 s of it and the present discharge (rule: Registers, 07).
@@ -277,7 +303,7 @@ uint16_t sb2_status(const struct sb2_state *s)
     /* a limit of 0 has nothing below it, so it needs no test of its own */
     if (remaining_word(s) < s->host.remaining_capacity_alarm)
         word |= 1u << 9;
-    if (time_to_empty(s, mean_current(s)) < s->host.remaining_time_alarm)
+    if (time_word(time_to_empty(s, mean_current(s))) < s->host.remaining_time_alarm)
         word |= 1u << 8;
     if (current <= 0)
         word |= 1u << 6;
@@ -294,8 +320,8 @@ static uint16_t charging_current_word(const struct sb2_state *s)
     return sb2_status(s) & 1u << 14 ? 0 : s->settings.charging_current;
 }
 
-/* One word for each command from 00 to 1C (rule: Registers). */
-uint16_t sb2_register(const struct sb2_state *s, uint8_t command)
+/* The word of each command from 00 to 1C that shows no minutes (rule: Registers). */
+static uint16_t whole_word(const struct sb2_state *s, uint8_t command)
 {
     switch (command) {
     case 0x00: return s->host.manufacturer_access;
@@ -303,8 +329,6 @@ uint16_t sb2_register(const struct sb2_state *s, uint8_t command)
     case 0x02: return s->host.remaining_time_alarm;
     case 0x03: return mode_word(s);
     case 0x04: return (uint16_t)s->host.at_rate;
-    case 0x05: return at_rate_to_full(s);
-    case 0x06: return at_rate_to_empty(s);
     case 0x07: return at_rate_ok(s);
     case 0x08: return s->latest.temperature;
     case 0x09: return s->latest.voltage;
@@ -315,9 +339,6 @@ uint16_t sb2_register(const struct sb2_state *s, uint8_t command)
     case 0x0E: return capped(percent(s, s->settings.design_capacity), 65535);
     case 0x0F: return remaining_word(s);
     case 0x10: return full_word(s);
-    case 0x11: return time_to_empty(s, s->latest.current);
-    case 0x12: return time_to_empty(s, mean_current(s));
-    case 0x13: return time_to_full(s, mean_current(s));
     case 0x14: return charging_current_word(s);
     case 0x15: return s->settings.charging_voltage;
     case 0x16: return sb2_status(s);
@@ -328,5 +349,25 @@ uint16_t sb2_register(const struct sb2_state *s, uint8_t command)
     case 0x1B: return s->settings.manufacture_date;
     case 0x1C: return s->settings.serial_number;
     default: return 0;
+    }
+}
+
+/* The word of a time, and whether it was cut off (rule: R-6). */
+static struct sb2_shown shown(struct time time)
+{
+    return (struct sb2_shown){time_word(time), time_cut_off(time)};
+}
+
+/* Minutes by their case; 05 in power mode is 65,535 and cut off; every other word is whole (rules: Registers; Answer
+ * numbers, 10; R-6). */
+struct sb2_shown sb2_register(const struct sb2_state *s, uint8_t command)
+{
+    switch (command) {
+    case 0x05: return s->host.capacity_mode ? (struct sb2_shown){65535, true} : shown(at_rate_to_full(s));
+    case 0x06: return shown(at_rate_to_empty(s));
+    case 0x11: return shown(time_to_empty(s, s->latest.current));
+    case 0x12: return shown(time_to_empty(s, mean_current(s)));
+    case 0x13: return shown(time_to_full(s, mean_current(s)));
+    default: return (struct sb2_shown){whole_word(s, command), false};
     }
 }

@@ -29,7 +29,7 @@ enum sb2_answer {
     SB2_NOT_BUILT = 7,
     SB2_READ_ONLY = 8,
     SB2_BAD_SHEET = 9,
-    SB2_OVERFLOW = 10,
+    SB2_OVERFLOW = 10, /* served, and its word was cut off */
     SB2_BAD_SET_UP = 11,
     SB2_CANNOT_WRITE = 12,
     SB2_NOT_A_KEY = 13,
@@ -193,7 +193,7 @@ enum sb2_kind { SB2_KIND_RESERVED, SB2_KIND_OPTIONAL, SB2_KIND_WRITE_WORD, SB2_K
 enum sb2_kind sb2_kind_of(uint8_t command);
 
 /* Carries out one transaction: answers 0 to 10; *length is the reply's, 0 if there is none
- * (rule: Transactions). `read` is the driver's mark. */
+ * (rules: Transactions; R-6). `read` is the driver's mark. */
 int sb2_transact(struct sb2_state *state, bool read, struct sb2_bytes message, struct sb2_bytes service,
                  struct sb2_bytes factory, uint8_t *room, size_t room_length, size_t *length);
 

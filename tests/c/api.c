@@ -321,6 +321,16 @@ static void refusals(void)
     CHECK(area[0], 7);
 }
 
+/* A read whose word was cut off: answer 10 with word and PEC, and error code 5 until the next read. */
+static void cut_off(uint8_t command, uint8_t low, uint8_t high)
+{
+    const uint8_t exchange[] = {0x16, command, 0x17, low, high};
+    CHECK(transact(true, exchange, 3), PACKED(SNATCHBLOCK_SERVED_CUT_OFF, 3));
+    CHECK(room_is((const uint8_t[]){low, high, snatchblock_pec(exchange, 5)}, 3), true);
+    CHECK(read_word(0x16), 0x00C5);
+    CHECK(read_word(0x16), 0x00C0);
+}
+
 static void served(void)
 {
     usual_pack();
@@ -333,14 +343,10 @@ static void served(void)
     write_word(0x04, 0);
     CHECK(read_word(0x06), 65535); /* 8 */
     write_word(0x04, 0xFFFF);
-    CHECK(read_word(0x06), 65534); /* 9 */
+    cut_off(0x06, 0xFE, 0xFF); /* 9: 120,000 minutes; tests/c/cutoff.c has the borders */
     write_word(0x03, 0x8000);
     CHECK(read_word(0x0F), 2960); /* 10 */
-    const uint8_t request[] = {0x16, 0x05, 0x17, 0xFF, 0xFF};
-    CHECK(transact(true, request, 3), PACKED(10, 3));
-    CHECK(room_is((const uint8_t[]){0xFF, 0xFF, snatchblock_pec(request, 5)}, 3), true);
-    CHECK(read_word(0x16), 0x00C5);
-    CHECK(read_word(0x16), 0x00C0);
+    cut_off(0x05, 0xFF, 0xFF);
 }
 
 static void served_exchanges(void)
@@ -349,8 +355,6 @@ static void served_exchanges(void)
     usual_pack();
     for (uint8_t command = 0; command <= 0x1C; command++) {
         uint8_t exchange[6] = {0x16, command, 0x17};
-        if (command == 0x05)
-            continue;
         CHECK(transact(true, exchange, 3), PACKED(0, 3));
         memcpy(exchange + 3, room, 3);
         CHECK(snatchblock_exchange_check(exchange, 6), PACKED(0, 1));
@@ -889,7 +893,7 @@ static void answer_names(void)
     const enum snatchblock_answer names[] = {
         SNATCHBLOCK_SERVED, SNATCHBLOCK_NOT_SOUND, SNATCHBLOCK_SMALL_ROOM, SNATCHBLOCK_OTHER_ADDRESS,
         SNATCHBLOCK_WRONG_FORM, SNATCHBLOCK_WRONG_PEC, SNATCHBLOCK_RESERVED_COMMAND, SNATCHBLOCK_COMMAND_NOT_BUILT,
-        SNATCHBLOCK_READ_ONLY, SNATCHBLOCK_BAD_SHEET, SNATCHBLOCK_SERVED_FFFF, SNATCHBLOCK_BAD_SET_UP,
+        SNATCHBLOCK_READ_ONLY, SNATCHBLOCK_BAD_SHEET, SNATCHBLOCK_SERVED_CUT_OFF, SNATCHBLOCK_BAD_SET_UP,
         SNATCHBLOCK_NO_FIT, SNATCHBLOCK_NOT_A_KEY, SNATCHBLOCK_NOT_A_CAPTURE, SNATCHBLOCK_WRONG_LENGTH,
         SNATCHBLOCK_TOO_MANY_ROWS, SNATCHBLOCK_BAD_ROW};
     CHECK(sizeof names / sizeof *names, 18);

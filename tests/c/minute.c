@@ -242,7 +242,7 @@ static void readers_of_the_mean(void)
     CHECK(word(0x16), 0x00C0);
     write_word(0x02, 61);
     CHECK(word(0x16), 0x01C0);
-    CHECK(sample(-1, 0), PACKED(0, 4)); /* the latest current alone would leave 65,534 minutes */
+    CHECK(sample(-1, 0), PACKED(0, 4)); /* the latest current alone would leave 120,000 minutes */
     CHECK(memcmp(room, "\x10\x16\xCF\x01", 4), 0);
     set_up(1998, 1000, 0);
     CHECK(word(0x13), 120); /* 2,002 mAh missing */

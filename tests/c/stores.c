@@ -129,6 +129,9 @@ static void reads(void)
         CODE_ALONE(READ((uint8_t)command), PACKED(0, 2));
         CHECK(state[0], 0);
     }
+    CHECK(made(state, &WRITE(0x04, 0xFF, 0xFF), (uint8_t[SNATCHBLOCK_REPLY_ROOM]){0}), 0);
+    CODE_ALONE(READ(0x06), PACKED(10, 3)); /* 120,000 minutes */
+    CHECK(state[0], 5);
     CHECK(made(state, &WRITE(0x03, 0x00, 0x80), (uint8_t[SNATCHBLOCK_REPLY_ROOM]){0}), 0);
     CODE_ALONE(READ(0x05), PACKED(10, 3));
     CHECK(state[0], 5);

@@ -265,10 +265,10 @@ static void scene(void)
     case 6:
         add(a_read((uint8_t)between(0x20, 0x23)));
         break;
-    case 7: /* AtRateTimeToFull, and the code that it leaves */
+    case 7: /* a time at AtRate, at 1 mA or 10 mW cut off, and the code that it leaves */
         add(a_write(0x03, coin() ? 0x8000 : 0x0000, coin()));
-        add(a_write(0x04, ONE_OF(rates), coin()));
-        add(a_read(0x05));
+        add(a_write(0x04, coin() ? ONE_OF(rates) : coin() ? 1 : 0xFFFF, coin()));
+        add(a_read(coin() ? 0x05 : 0x06));
         add(a_read(0x16));
         add(a_read(0x16));
         break;

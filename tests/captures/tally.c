@@ -103,9 +103,10 @@ static unsigned long codes_shown[8], low_capacity[2][2], mode_writes[8];
 enum { RATES = 6 };
 static const char *const rate_names[RATES] = {"0", "1", "-1", "-32768", "other above 0", "other below 0"};
 static unsigned long at_rate_reads[2][3][RATES];
-enum { TIMES = 3 };
-static const char *const time_names[TIMES] = {"65535", "65534", "less"};
-static unsigned long time_words[2][2][TIMES];
+enum { TIMES = 4 };
+static const char *const time_names[TIMES] = {"65535, answered 0", "65535, answered 10", "65534, answered 10",
+                                              "less, answered 0"};
+static unsigned long time_words[2][2][TIMES + 1], time_codes[2][2];
 static unsigned long at_rate_fine[2];
 
 static unsigned rate_class(int rate)
@@ -113,10 +114,25 @@ static unsigned rate_class(int rate)
     return rate == 0 ? 0 : rate == 1 ? 1 : rate == -1 ? 2 : rate == -32768 ? 3 : rate > 0 ? 4 : 5;
 }
 
-/* What the served writes of a capture have left. */
+/* Which of these a served time is; TIMES for what the player's pack never shows. */
+static unsigned time_class(unsigned word, int answer)
+{
+    if (word == 65535)
+        return answer == 10;
+    return word == 65534 && answer == 10 ? 2 : word < 65534 && answer == 0 ? 3 : TIMES;
+}
+
+/* In power mode 05 shows 65,535 alone, cut off; no other time does. */
+static bool time_can_be(unsigned power, unsigned command, unsigned kind)
+{
+    return kind < TIMES && (kind == 1) == (power == 1 && command == 0x05);
+}
+
+/* What the served writes of a capture have left, and the command that the row before has read as cut off, else 0. */
 struct pack {
     bool power;
     int at_rate;
+    uint8_t cut_off;
 };
 
 struct line {
@@ -129,6 +145,8 @@ struct line {
 static bool count_row(struct pack *pack, unsigned mark, const uint8_t *body, size_t length, const struct line *line)
 {
     bool fine = true;
+    uint8_t cut_off = pack->cut_off;
+    pack->cut_off = line->answer == 10 ? body[1] : 0;
     rows_seen++;
     answers[line->answer]++;
     lengths[mark][length]++;
@@ -164,16 +182,17 @@ static bool count_row(struct pack *pack, unsigned mark, const uint8_t *body, siz
             empty_blocks[command - 0x20] += line->length == 2 && line->reply[0] == 0;
         if (served && line->length == 3) {
             unsigned word = line->reply[0] | (unsigned)line->reply[1] << 8;
-            unsigned kind = word == 65535 ? 0 : word == 65534 ? 1 : 2;
             if (command >= 0x05 && command <= 0x07)
                 at_rate_reads[pack->power][command - 0x05][rate_class(pack->at_rate)]++;
             if (command == 0x05 || command == 0x06)
-                time_words[pack->power][command - 0x05][kind]++;
+                time_words[pack->power][command - 0x05][time_class(word, line->answer)]++;
             if (command == 0x07)
                 at_rate_fine[pack->power] += word == 1;
             if (command == 0x16) {
                 codes_shown[word & 7]++;
                 low_capacity[pack->power][word >> 9 & 1]++;
+                if (cut_off == 0x05 || cut_off == 0x06)
+                    time_codes[pack->power][cut_off - 0x05] += (word & 0xF) == 5;
             }
         }
     }
@@ -262,7 +281,7 @@ static bool count_capture(const char *name, const uint8_t *bytes, size_t length,
     captures_without_rows += rows == 0;
     captures_of_255 += rows == 255;
     captures_longest += length == CAPTURE_MOST;
-    struct pack pack = {false, 0};
+    struct pack pack = {false, 0, 0};
     size_t place = 1 + 2 * rows;
     for (size_t i = 0; i < rows; i++) {
         unsigned mark = bytes[1 + 2 * i];
@@ -303,6 +322,29 @@ static void want_all(const char *name, const unsigned long *counts, unsigned fro
             printf(hex ? "  %02x NEVER CAME UP\n" : "  %u NEVER CAME UP\n", i);
             missing++;
         }
+}
+
+/* The words of 05 and 06 with their answers, and the code that a cut-off one leaves. */
+static void print_times(void)
+{
+    char name[96];
+    for (unsigned i = 0; i < 2 * 2 * (TIMES + 1); i++) {
+        unsigned power = i / (2 * (TIMES + 1)), command = i / (TIMES + 1) % 2, kind = i % (TIMES + 1);
+        unsigned long count = time_words[power][command][kind];
+        const char *mode = power ? "power mode" : "mAh";
+        if (!time_can_be(power, 5 + command, kind)) {
+            if (count > 0)
+                printf("  %9lu  %s, %02x with an answer or a word that can't be   WRONG\n", count, mode, 5 + command);
+            missing += count > 0;
+            continue;
+        }
+        snprintf(name, sizeof name, "%s, %02x shows %s", mode, 5 + command, time_names[kind]);
+        want(name, count);
+    }
+    want("mAh, error code 5 after 05", time_codes[0][0]);
+    want("mAh, error code 5 after 06", time_codes[0][1]);
+    want("power mode, error code 5 after 05", time_codes[1][0]);
+    want("power mode, error code 5 after 06", time_codes[1][1]);
 }
 
 static void print_classes(void)
@@ -373,14 +415,7 @@ static void print_classes(void)
                 snprintf(name, sizeof name, "%s, read of %02x at AtRate %s", power ? "power mode" : "mAh", 5 + command, rate_names[rate]);
                 want(name, at_rate_reads[power][command][rate]);
             }
-    for (unsigned power = 0; power < 2; power++)
-        for (unsigned command = 0; command < 2; command++)
-            for (unsigned kind = 0; kind < TIMES; kind++) {
-                if (power == 1 && command == 0 && kind != 0)
-                    continue; /* AtRateTimeToFull has no other word in power mode */
-                snprintf(name, sizeof name, "%s, %02x shows %s", power ? "power mode" : "mAh", 5 + command, time_names[kind]);
-                want(name, time_words[power][command][kind]);
-            }
+    print_times();
     want("mAh, 07 shows 1", at_rate_fine[0]);
     want("power mode, 07 shows 1", at_rate_fine[1]);
     puts("  not from the player, which takes no sample: 07 showing 0, words on a current other than 0, the\n"

@@ -213,14 +213,14 @@ static bool stays_behind(const struct both *b, size_t first)
     return memcmp(b->proved, b->before, from) == 0 && memcmp(b->proved + to, b->before + to, sizeof b->before - to) == 0;
 }
 
-/* The bytes of the area that document 01 lets an answer change: of a refusal past 3 the error code alone. */
+/* The bytes of the area that document 01 lets an answer change: past 3 the error code alone, of 10 too, for a read. */
 static size_t area_may_change(unsigned answer)
 {
     if (call.area != WRITES_AREA)
         return 0;
-    if (answer == SB2_SERVED || answer == SB2_OVERFLOW)
+    if (answer == SB2_SERVED)
         return area.length;
-    return answer > SB2_NOT_FOR_PACK && answer <= SB2_BAD_SHEET;
+    return answer > SB2_NOT_FOR_PACK && answer <= SB2_OVERFLOW;
 }
 
 /* Every entry with a room answers in the low byte and has the bytes written above it, none where it refused. */
@@ -289,7 +289,9 @@ static uint64_t came[ENTRIES][ANSWERS];
 /* Classes beside the answers. Those of a mode stand twice, in mAh and in power mode. */
 enum other {
     READ_SERVED, WRITE_SERVED = READ_SERVED + 2 * 64, TIME_IN_MAH = WRITE_SERVED + 2 * 5, TIME_IN_POWER = TIME_IN_MAH + 15,
-    AT_RATE_OK = TIME_IN_POWER + 12, STATUS_SET = AT_RATE_OK + 4, STATUS_CLEAR = STATUS_SET + 16,
+    FULL_IN_POWER = TIME_IN_POWER + 12, BORDER_IN_MAH = FULL_IN_POWER + 3, BORDER_IN_POWER = BORDER_IN_MAH + 5 * 4,
+    RATE_TO_0 = BORDER_IN_POWER + 4 * 4, TIME_ALARM = RATE_TO_0 + 3 * 3, CODE_5 = TIME_ALARM + 3 * 3,
+    AT_RATE_OK = CODE_5 + 2 * 5, STATUS_SET = AT_RATE_OK + 4, STATUS_CLEAR = STATUS_SET + 16,
     BIT_4_WAS_CLEAR = STATUS_CLEAR + 16, BIT_4_WAS_SET = BIT_4_WAS_CLEAR + 3, MESSAGES = BIT_4_WAS_SET + 3,
     ALARM_BIT = MESSAGES + 2 * 5, COUNTER_WRAPPED = ALARM_BIT + 16, HOLD_RAN_OUT, EXCHANGE_RIGHT, EXCHANGE_WRONG,
     BLOCK_SERVICE, BLOCK_FACTORY, BLOCK_NEITHER, STEP_ROW, STEP_ROW_OF_OTHERS, STEP_PAST_LAST,
@@ -322,6 +324,7 @@ static void came_up(enum entry entry, uint64_t result)
 static uint8_t state_area[AREA_MOST]; /* the pack's area between calls */
 static unsigned long since_full;      /* samples since set-up or the last one at full */
 static size_t sent_bytes;             /* by the latest sample */
+static int answered;                  /* to the latest message */
 static uint8_t service[145], factory[145];
 static size_t service_length, factory_length;
 
@@ -694,14 +697,96 @@ static size_t some_message(uint8_t at[64], bool *read)
     return length;
 }
 
-/* The word of a served read: the times at their caps and below, AtRateOK, the bits of the status. */
-static void note_word(uint8_t command, bool power, uint16_t word)
+/* ---- times: 06, 11, 12, 13, and 05, which stands last for it has no minutes in power mode */
+
+static const uint8_t times[] = {0x06, 0x11, 0x12, 0x13, 0x05};
+enum { TIMES = sizeof times, MINUTES = 0, BEYOND, NOT_MOVING };
+enum { FIRST_BORDER = 65533, TIME_BORDERS = 4 }; /* minutes before the cap: about 65,534, and where 16 bits end */
+
+static bool to_full(uint8_t command)
 {
-    static const uint8_t times[] = {0x06, 0x11, 0x12, 0x13, 0x05};
-    unsigned which = word == 65534 ? 0 : word == 65535 ? 1 : 2;
-    for (unsigned i = 0; i < sizeof times; i++)
-        if (command == times[i] && !(power && command == 0x05)) /* 05 is 65,535 in power mode, answer 10 */
-            other[(power ? TIME_IN_POWER : TIME_IN_MAH) + 3 * i + which]++;
+    return command == 0x05 || command == 0x13;
+}
+
+/* The total of the seconds that the area keeps. */
+static int64_t kept_total(void)
+{
+    int64_t sum = 0;
+    for (uint32_t place = 0; place < state_area[KEPT_AT]; place++)
+        sum += (int32_t)number_at(TOTALS_AT + 4 * place, 4);
+    return sum;
+}
+
+/* The current or AtRate that a time looks at, above 0 where it goes the command's way. */
+static int64_t time_current(const struct sb2_state *s, uint8_t command)
+{
+    int64_t current = s->latest.current;
+    if (command <= 0x06)
+        current = s->host.at_rate;
+    else if (command != 0x11 && s->minute.count > 0)
+        current = kept_total() / (1000 * (int64_t)s->minute.count);
+    return to_full(command) ? current : -current;
+}
+
+/* The size of that in the mode's unit; AtRate stands in it already. */
+static uint64_t time_rate(const struct sb2_state *s, uint8_t command)
+{
+    int64_t current = time_current(s, command);
+    uint64_t size = (uint64_t)(current < 0 ? -current : current);
+    return command > 0x06 && s->host.capacity_mode ? size * s->latest.voltage / 10000 : size;
+}
+
+/* A charge as 0F and 10 show it. */
+static uint64_t shown_charge(const struct sb2_state *s, uint64_t charge)
+{
+    uint64_t word = charge / SB2_MS_PER_HOUR;
+    if (s->host.capacity_mode)
+        word = charge * s->settings.design_voltage / (SB2_MS_PER_HOUR * UINT64_C(10000));
+    return word < 65535 ? word : 65535;
+}
+
+/* What a time has to go, in the mode's unit. */
+static uint64_t time_capacity(const struct sb2_state *s, uint8_t command)
+{
+    uint64_t remaining = shown_charge(s, s->tank.charge);
+    if (!to_full(command))
+        return remaining;
+    return shown_charge(s, (uint64_t)s->tank.full_capacity * SB2_MS_PER_HOUR) - remaining;
+}
+
+/* Which of the three a served time is: the word 65,534 is minutes with answer 0. */
+static unsigned time_case(uint16_t word, int answer)
+{
+    return answer == SB2_OVERFLOW ? BEYOND : word == 65535 ? NOT_MOVING : MINUTES;
+}
+
+/* A time that was read: its case; a rate that rounded to 0; its minutes before the cap, where they are about it. */
+static void note_time(unsigned which, uint16_t word, int answer)
+{
+    struct sb2_state state;
+    uint8_t command = times[which];
+    (void)sb2_area_load(bytes_of(state_area, SNATCHBLOCK_AREA), &state);
+    bool power = state.host.capacity_mode;
+    int64_t current = time_current(&state, command);
+    if (power && command == 0x05) {
+        other[FULL_IN_POWER + (current < 0 ? 0 : current == 0 ? 1 : 2)]++;
+        return;
+    }
+    other[(power ? TIME_IN_POWER : TIME_IN_MAH) + 3 * which + time_case(word, answer)]++;
+    uint64_t rate = time_rate(&state, command), capacity = time_capacity(&state, command);
+    if (command > 0x06 && power && current != 0 && rate == 0)
+        other[RATE_TO_0 + 3 * (which - 1) + (current < 0 ? 2 : capacity == 0 ? 1 : 0)]++;
+    uint64_t before_cap = current > 0 && rate > 0 ? 60 * capacity / rate : 0;
+    if (before_cap >= FIRST_BORDER && before_cap < FIRST_BORDER + TIME_BORDERS)
+        other[(power ? BORDER_IN_POWER : BORDER_IN_MAH) + TIME_BORDERS * which + before_cap - FIRST_BORDER]++;
+}
+
+/* The word of a served read: the times, AtRateOK, the bits of the status. */
+static void note_word(uint8_t command, bool power, uint16_t word, int answer)
+{
+    for (unsigned i = 0; i < TIMES; i++)
+        if (command == times[i])
+            note_time(i, word, answer);
     if (command == 0x07)
         other[AT_RATE_OK + 2 * power + (word != 0)]++;
     if (command == 0x0E)
@@ -730,9 +815,17 @@ static void play_message_in(size_t room_length, const uint8_t *message, size_t m
         bool power = state_area[SNATCHBLOCK_HOST + 10] == 1;
         other[read ? READ_SERVED + 64 * power + message[1] : WRITE_SERVED + 5 * power + message[1]]++;
         if (read && message[1] < 0x20)
-            note_word(message[1], power, (uint16_t)(room.s[0] | room.s[1] << 8));
+            note_word(message[1], power, (uint16_t)(room.s[0] | room.s[1] << 8), answer);
     }
+    answered = answer;
     keep_area();
+}
+
+/* Reads a word of the whole area in the least room. */
+static void play_read(uint8_t command)
+{
+    const uint8_t ask[3] = {0x16, command, 0x17};
+    play_message_in(SB2_REPLY_ROOM, ask, 3, true, SNATCHBLOCK_AREA);
 }
 
 static void play_message(const uint8_t *message, size_t message_length, bool read, size_t length)
@@ -985,17 +1078,118 @@ static void play_parts(void)
 /* Reads the times at the slowest rates, AtRate, current and mean 1 or -1, the mean with a second kept and with none. */
 static void play_times(void)
 {
-    static const uint8_t times[] = {0x05, 0x06, 0x11, 0x12, 0x13};
     uint16_t slow = one_in(2) ? 1 : 0xFFFF;
     put(SNATCHBLOCK_HOST + 6, 2, slow);
     put(SNATCHBLOCK_HOST + 10, 1, below(2));
     put(SNATCHBLOCK_LATEST + 2, 2, slow);
     put(TOTALS_AT, 4, (uint64_t)(slow == 1 ? 1000 : -1000));
     put(KEPT_AT, 1, below(2));
-    for (size_t i = 0; i < sizeof times; i++) {
+    for (size_t i = 0; i < TIMES; i++) {
         const uint8_t ask[3] = {0x16, times[i], 0x17};
         play_message(ask, 3, true, SNATCHBLOCK_AREA);
     }
+}
+
+/* A capacity and a rate whose whole minutes are so many, about the cap: rates are drawn until one has such. */
+static uint32_t capacity_of(uint64_t minutes, uint32_t *rate)
+{
+    for (;;) {
+        *rate = 1 + below(60);
+        uint64_t capacity = (minutes * *rate + 59) / 60;
+        if (capacity <= 65535 && 60 * capacity / *rate == minutes)
+            return (uint32_t)capacity;
+    }
+}
+
+/* Any charge that the area shows as a word; of the highest word the least charge, which no pack is too small for. */
+static uint64_t charge_shown(bool power, uint32_t design_voltage, uint64_t word)
+{
+    uint64_t unit = power ? SB2_MS_PER_HOUR * UINT64_C(10000) : SB2_MS_PER_HOUR, by = power ? design_voltage : 1;
+    uint64_t least = (word * unit + by - 1) / by, next = ((word + 1) * unit + by - 1) / by;
+    return word == 65535 ? least : least + draw() % (next - least);
+}
+
+/* Puts a pack that has so much to go, to empty or to full, in the mode's unit. 65,535 mAh at 10,000 mV or more are all
+ * that a word can show. */
+static void put_to_go(bool fill_up, bool power, uint64_t capacity)
+{
+    uint32_t voltage = 10000 + (one_in(4) ? 0 : below(55536)), full = 1 + below(65535);
+    if ((power ? (uint64_t)full * voltage / 10000 : full) < capacity)
+        full = 65535;
+    uint64_t most = (uint64_t)full * SB2_MS_PER_HOUR, full_word = power ? (uint64_t)full * voltage / 10000 : full;
+    if (full_word > 65535)
+        full_word = 65535;
+    uint64_t charge = charge_shown(power, voltage, fill_up ? full_word - capacity : capacity);
+    put(SNATCHBLOCK_SETTINGS + 2, 2, voltage);
+    put(SNATCHBLOCK_HOST + 10, 1, power);
+    put(FULL_AT, 2, full);
+    put(SNATCHBLOCK_TANK, 8, charge < most ? charge : most);
+}
+
+/* Puts a current, or AtRate, where a time looks for it; a mean over some seconds or, with none, the latest. The other
+ * places have any. */
+static void put_rate(uint8_t command, int32_t current)
+{
+    bool of_mean = command > 0x11 && one_in(2);
+    int32_t total = 1000 * current + (current < 0 ? -(int32_t)below(1000) : (int32_t)below(1000)); /* cut toward zero */
+    put(SNATCHBLOCK_HOST + 6, 2, (uint64_t)(command <= 0x06 ? current : some_current()));
+    put(SNATCHBLOCK_LATEST + 2, 2, (uint64_t)(command > 0x06 && !of_mean ? current : some_current()));
+    if (command <= 0x11)
+        return;
+    uint32_t count = of_mean ? 1 + below(SB2_SECONDS) : 0;
+    put(KEPT_AT, 1, count);
+    for (uint32_t place = 0; place < count; place++)
+        put(TOTALS_AT + 4 * place, 4, (uint64_t)total);
+}
+
+/* The mA that are so many 10 mW, 1 to 60, at a voltage that is put; in mAh, and of AtRate, the rate itself. */
+static int32_t current_of(uint8_t command, bool power, uint32_t rate)
+{
+    if (!power || command <= 0x06)
+        return (int32_t)rate;
+    for (;;) {
+        uint32_t voltage = one_in(4) ? 10000 : 20 + below(one_in(2) ? 10000 : 65516);
+        uint32_t current = (10000 * rate + voltage - 1) / voltage;
+        put(SNATCHBLOCK_LATEST, 2, voltage);
+        if (current * voltage / 10000 == rate)
+            return (int32_t)current;
+    }
+}
+
+/* Reads a time, then the code that it left. */
+static void play_time(unsigned which, bool power)
+{
+    play_read(times[which]);
+    bool is_cut_off = answered == SB2_OVERFLOW;
+    play_read(0x16);
+    if (is_cut_off && answered == SB2_SERVED && (room.s[0] & 0xF) == 5)
+        other[CODE_5 + TIMES * power + which]++;
+}
+
+/* A time with minutes about the cap, before it is held under it. */
+static void play_time_border(unsigned which, bool power, unsigned border)
+{
+    uint8_t command = times[which];
+    uint32_t rate, capacity = capacity_of(FIRST_BORDER + border, &rate);
+    play_set_up(true);
+    put_to_go(to_full(command), power, capacity);
+    int32_t current = current_of(command, power, rate);
+    put_rate(command, to_full(command) ? current : -current);
+    play_time(which, power);
+}
+
+/* A time of 11, 12 or 13 in power mode whose rate rounds to 0, the command's way or against it, with something to go or
+ * nothing. */
+static void play_rounded_time(unsigned which, bool against, bool to_go)
+{
+    uint8_t command = times[which];
+    uint32_t voltage = one_in(8) ? 0 : 1 + below(9999);
+    int32_t current = (int32_t)(1 + below(voltage == 0 ? 30000 : 9999 / voltage));
+    play_set_up(true);
+    put_to_go(to_full(command), true, to_go ? 1 + below(65535) : 0);
+    put(SNATCHBLOCK_LATEST, 2, voltage);
+    put_rate(command, to_full(command) == against ? -current : current);
+    play_time(which, true);
 }
 
 /* Reads the status with RemainingTimeAlarm at the word 12, or one off it. */
@@ -1006,10 +1200,33 @@ static void play_time_alarm(void)
         return;
     const uint8_t ask[3] = {0x16, 0x12, 0x17};
     play_message(ask, 3, true, SNATCHBLOCK_AREA);
-    if (room.length >= SB2_REPLY_ROOM)
-        put(SNATCHBLOCK_HOST + 4, 2, (uint64_t)(room.s[0] | room.s[1] << 8) - 1 + below(3));
+    bool served = answered == SB2_SERVED || answered == SB2_OVERFLOW;
+    uint16_t word = (uint16_t)(room.s[0] | room.s[1] << 8);
+    unsigned apart = below(3), class = TIME_ALARM + 3 * time_case(word, answered) + apart;
+    if (served)
+        put(SNATCHBLOCK_HOST + 4, 2, (uint64_t)word - 1 + apart);
     const uint8_t status[3] = {0x16, 0x16, 0x17};
     play_message(status, 3, true, SNATCHBLOCK_AREA);
+    if (served && answered == SB2_SERVED)
+        other[class]++;
+}
+
+/* Times about their cap, with bit 8 against 12; those that no rate divides; 05 in power mode. */
+static void play_cut_off(void)
+{
+    for (unsigned which = 0; which < TIMES; which++)
+        for (unsigned i = 0; i < 2 * TIME_BORDERS; i++) {
+            play_time_border(which, i % 2, i / 2); /* in power mode 05 has AtRate alone */
+            if (times[which] == 0x12)
+                play_time_alarm();
+        }
+    for (unsigned which = 1; which < 4; which++)
+        for (unsigned i = 0; i < 4; i++)
+            play_rounded_time(which, i % 2, i / 2);
+    for (int32_t sign = -1; sign <= 1; sign++) { /* still in power mode */
+        put_rate(0x05, sign * (int32_t)(1 + below(32767)));
+        play_time(TIMES - 1, true);
+    }
 }
 
 static void play_areas(void)
@@ -1126,9 +1343,7 @@ static uint32_t run_step(enum run run)
 static void note_mean(void)
 {
     uint32_t count = state_area[KEPT_AT];
-    int64_t sum = 0, begun = (int32_t)number_at(BEGUN_AT, 4), ms = number_at(BEGUN_MS_AT, 2);
-    for (uint32_t place = 0; place < count; place++)
-        sum += (int32_t)number_at(TOTALS_AT + 4 * place, 4);
+    int64_t sum = kept_total(), begun = (int32_t)number_at(BEGUN_AT, 4), ms = number_at(BEGUN_MS_AT, 2);
     int64_t length = 1000 * (int64_t)count;
     if (count == 0) {
         other[MEAN_OF]++;
@@ -1922,7 +2137,8 @@ static void play_shelf(void)
 
 static void play(void)
 {
-    switch (below(15)) {
+    switch (below(16)) {
+    case 15: play_cut_off(); break;
     case 14: play_choices(); break;
     case 13: case 12: play_learning(); break;
     case 11: play_minutes(); break;
@@ -1992,8 +2208,14 @@ static bool tally(void)
         {"in power mode", READ_SERVED + 64 + 0x20, READ_SERVED + 64 + 0x23},
         {"writes served, 00 to 04", WRITE_SERVED, WRITE_SERVED + 4},
         {"in power mode", WRITE_SERVED + 5, WRITE_SERVED + 9},
-        {"06, 11, 12, 13, 05: 65,534, 65,535, another", TIME_IN_MAH, TIME_IN_MAH + 14},
+        {"06, 11, 12, 13, 05: minutes, beyond, not moving", TIME_IN_MAH, TIME_IN_MAH + 14},
         {"06, 11, 12, 13 in power mode: the same", TIME_IN_POWER, TIME_IN_POWER + 11},
+        {"05 in power mode: AtRate below 0, 0, above 0", FULL_IN_POWER, FULL_IN_POWER + 2},
+        {"each at 65,533 to 65,536 minutes before the cap", BORDER_IN_MAH, BORDER_IN_MAH + 5 * 4 - 1},
+        {"06, 11, 12, 13 in power mode: the same", BORDER_IN_POWER, BORDER_IN_POWER + 4 * 4 - 1},
+        {"11, 12, 13 at a rate of 0: so, none to go, against", RATE_TO_0, RATE_TO_0 + 3 * 3 - 1},
+        {"5 shown after each, in power mode too", CODE_5, CODE_5 + 2 * 5 - 1},
+        {"bit 8 by 12, each case: one below, at it, above it", TIME_ALARM, TIME_ALARM + 3 * 3 - 1},
         {"07: 0, 1, and in power mode", AT_RATE_OK, AT_RATE_OK + 3},
         {"status bit 14 set", STATUS_SET + 14, STATUS_SET + 14},
         {"12 and 11 set", STATUS_SET + 11, STATUS_SET + 12},

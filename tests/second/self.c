@@ -1,7 +1,7 @@
 /* Holds the second program to published facts: document 01's worked examples
  * and tables, both packets of source document 001, the check word of CRC-8 and
  * the values that 002 works out. Then to properties that document 01 states, and
- * to figures worked by hand from the words of requests R-1, R-2, R-4 and R-5. */
+ * to figures worked by hand from the words of requests R-1, R-2 and R-4 to R-6. */
 #include "../../second/snatchblock2.h"
 
 #include <stdio.h>
@@ -148,7 +148,8 @@ static void worked_examples(void)
     CHECK(word(&s, 0x06), 3);
     CHECK(put(&s, 0x04, 0), 0); /* 8 */
     CHECK(word(&s, 0x06), 65535);
-    CHECK(put(&s, 0x04, 0xFFFF), 0); /* 9 */
+    CHECK(put(&s, 0x04, 0xFFFF), 0); /* 9, and by R-6 cut off: 120,000 */
+    CHECK(answer_of(&s, true, BYTES(0x16, 0x06, 0x17)), 10);
     CHECK(word(&s, 0x06), 65534);
     CHECK(put(&s, 0x03, 0x8000), 0); /* 10 */
     CHECK(word(&s, 0x0F), 2960);
@@ -635,7 +636,132 @@ static void registers(void)
     CHECK(word(&s, 0x16), 0x08C0);
     CHECK(put(&s, 0x02, 65535), 0);
     CHECK(word(&s, 0x12), 65534);
+    CHECK(word(&s, 0x16), 0x09C5); /* 239,940 minutes: cut off */
     CHECK(word(&s, 0x16), 0x09C0);
+}
+
+/* ---- request R-6 */
+
+/* A read of a time: its word, its answer, the code that it leaves; all else of the state stays. */
+static void time_at(int line, struct sb2_state *s, uint8_t command, int answer, long shown)
+{
+    const uint8_t request[3] = {0x16, command, 0x17};
+    struct sb2_state before = *s;
+    before.error_code = answer == 10 ? 5 : 0;
+    s->error_code = 3;
+    check_at(line, "word", word(s, command), shown);
+    check_at(line, "answer", answer_of(s, true, bytes(request, 3)), answer);
+    check_at(line, "state", sb2_same(&before, s), true);
+    check_at(line, "code", word(s, 0x16) & 0xF, before.error_code);
+    check_at(line, "code after it", word(s, 0x16) & 0xF, 0);
+}
+#define TIME(command, answer, shown) time_at(__LINE__, &s, command, answer, shown)
+
+/* So many of 65,535 mAh to go, to full or to empty, at AtRate and a current of so many mA the command's way. */
+static struct sb2_state flowing(bool to_full, uint16_t capacity, int32_t rate)
+{
+    struct sb2_set_up in = usual;
+    in.design_capacity = in.full_capacity = 65535;
+    in.remaining_capacity = to_full ? (uint16_t)(65535 - capacity) : capacity;
+    struct sb2_state s = made(in);
+    s.host.at_rate = s.latest.current = (int16_t)(to_full ? rate : -rate);
+    return s;
+}
+
+/* Each of the five; 12 and 13 once more from a complete second, with no current now. */
+static void time_of(int line, uint16_t capacity, int32_t rate, int answer, long shown)
+{
+    static const uint8_t to_empty[] = {0x06, 0x11, 0x12}, to_full[] = {0x05, 0x13};
+    for (unsigned i = 0; i < 5; i++) {
+        struct sb2_state s = flowing(i >= 3, capacity, rate);
+        uint8_t command = i < 3 ? to_empty[i] : to_full[i - 3];
+        time_at(line, &s, command, answer, shown);
+        if (command < 0x12)
+            continue;
+        s.minute.count = 1;
+        s.minute.total[s.minute.newest] = 1000 * s.latest.current;
+        s.latest.current = 0;
+        time_at(line, &s, command, answer, shown);
+    }
+}
+#define TIME_OF(capacity, rate, answer, shown) time_of(__LINE__, capacity, rate, answer, shown)
+
+static void cut_off(void)
+{
+    TIME_OF(0, 1, 0, 0);
+    TIME_OF(65533, 60, 0, 65533);
+    TIME_OF(14199, 13, 0, 65533);  /* 851,940 ÷ 13 */
+    TIME_OF(32767, 30, 0, 65534);  /* exactly */
+    TIME_OF(62258, 57, 0, 65534);  /* 3,735,480 ÷ 57, 42 over */
+    TIME_OF(4369, 4, 10, 65534);   /* 65,535 */
+    TIME_OF(65535, 60, 10, 65534); /* 65,535 */
+    TIME_OF(16384, 15, 10, 65534); /* 65,536 */
+    TIME_OF(65535, 1, 10, 65534);
+    TIME_OF(65535, 61, 0, 64460); /* 3,932,100 ÷ 61 */
+    TIME_OF(65535, 32767, 0, 120);
+    TIME_OF(65535, 0, 0, 65535);
+    TIME_OF(65535, -1, 0, 65535);
+    TIME_OF(0, -32767, 0, 65535);
+}
+
+static void cut_off_in_power_mode(void)
+{
+    struct sb2_set_up in = usual;
+    in.full_capacity = 30000;
+    in.remaining_capacity = 22140; /* 32,767.2 in 10 mWh */
+    in.first.voltage = 12500;
+    in.first.current = -24; /* 30 in 10 mW: 1,966,020 ÷ 30 */
+    struct sb2_state s = made(in);
+    CHECK(put(&s, 0x03, 0x8000), 0);
+    TIME(0x11, 0, 65534);
+    TIME(0x12, 0, 65534);
+    TIME(0x13, 0, 65535);
+    s.host.at_rate = -30;
+    TIME(0x06, 0, 65534);
+    s.host.at_rate = -29; /* 67,793 */
+    TIME(0x06, 10, 65534);
+    TIME(0x05, 10, 65535);
+    s.tank.charge += 3600000; /* 32,768.68: 65,536 */
+    TIME(0x11, 10, 65534);
+    TIME(0x12, 10, 65534);
+    s.latest.voltage = 416; /* 9,984: rounds to 0 */
+    TIME(0x11, 10, 65534);
+    s.tank.charge = 0;
+    TIME(0x11, 10, 65534);
+    TIME(0x12, 10, 65534);
+    TIME(0x13, 0, 65535);
+    s.latest.voltage = 417;
+    TIME(0x11, 0, 0);
+    s.latest = (struct sb2_sample){416, 24, 0, 0};
+    TIME(0x11, 0, 65535);
+    TIME(0x12, 0, 65535);
+    TIME(0x13, 10, 65534);
+    s.host.at_rate = 1;
+    TIME(0x05, 10, 65535);
+    s.host.at_rate = 0;
+    TIME(0x05, 10, 65535);
+    TIME(0x06, 0, 65535);
+}
+
+/* Every other word is whole, be it 65,534; and what ends the code. */
+static void whole_words(void)
+{
+    struct sb2_state s = made(usual);
+    CHECK(put(&s, 0x00, 65534), 0);
+    CHECK(put(&s, 0x01, 65534), 0);
+    CHECK(put(&s, 0x02, 65534), 0);
+    CHECK(put(&s, 0x04, 65534), 0);
+    for (uint8_t command = 0x00; command <= 0x04; command++)
+        TIME(command, 0, command == 0x03 ? 0 : 65534);
+    CHECK(put(&s, 0x04, 65535), 0);
+    CHECK(answer_of(&s, true, BYTES(0x16, 0x06, 0x17)), 10);
+    CHECK(answer_of(&s, true, BYTES(0x14, 0x06, 0x15)), 3); /* not for the pack: the code stays */
+    CHECK(s.error_code, 5);
+    CHECK(answer_of(&s, false, BYTES(0x16, 0x06, 0x00, 0x00)), 8);
+    CHECK(s.error_code, 4);
+    CHECK(answer_of(&s, true, BYTES(0x16, 0x06, 0x17)), 10);
+    CHECK(answer_of(&s, true, BYTES(0x16, 0x05, 0x17)), 0);
+    CHECK(s.error_code, 0);
 }
 
 /* ---- document 01, clock and broadcasts */
@@ -1999,6 +2125,9 @@ int main(void)
     specification_values();
     answers_in_order();
     registers();
+    cut_off();
+    cut_off_in_power_mode();
+    whole_words();
     clock_and_broadcasts();
     the_minute();
     long_samples();

@@ -3,6 +3,7 @@
 use Prim.Native.Nat.{ℕ}
 use mathlib.Core.Bool.{Bool, false, cond, not, _&&_, _||_}
 use lib.Dec.{ltb, eqb}
+use Rattle.minutes.specs.Minutes.{timeWord}
 use Rattle.pack.specs.Discharge.{dischargeEnds}
 use Rattle.pack.specs.declared.Pack.{Pack}
 use Rattle.registers.specs.Registers.{remainingCapacity}
@@ -34,9 +35,9 @@ terminateDischarge p = dischargeEnds (p .latest .voltage) (p .latest .current) (
 abbrev pub remainingCapacityLow : Pack → Bool
 remainingCapacityLow p = not (eqb (p .host .RemainingCapacityAlarm) 0) && ltb (remainingCapacity p) (p .host .RemainingCapacityAlarm)
 
--- 8 REMAINING_TIME: 02 isn't 0 and 12 is below it (RULES 6.21)
+-- 8 REMAINING_TIME: 02 isn't 0 and the word 12 is below it (RULES 6.21)
 abbrev pub remainingTimeLow : Pack → Bool
-remainingTimeLow p = not (eqb (p .host .RemainingTimeAlarm) 0) && ltb (averageTimeToEmpty p) (p .host .RemainingTimeAlarm)
+remainingTimeLow p = not (eqb (p .host .RemainingTimeAlarm) 0) && ltb (timeWord (averageTimeToEmpty p)) (p .host .RemainingTimeAlarm)
 
 -- 6 DISCHARGING: current not above 0 (RULES 6.22)
 abbrev pub discharging : Pack → Bool

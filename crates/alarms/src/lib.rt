@@ -53,7 +53,8 @@ pub fn remaining_time_low(p: Pack) -> bool
     ensures { λ r. ⌜ r ≡ remainingTimeLow p ⌝ }
 {
     let limit = p.host.RemainingTimeAlarm;
-    (limit != 0) & (times::average_time_to_empty(p) < limit)
+    let left = minutes::time_word(times::average_time_to_empty(p));
+    (limit != 0) & (left < limit)
 }
 
 // Bit 6.

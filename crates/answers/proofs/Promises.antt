@@ -10,6 +10,7 @@ use borrow.Author.Tests.{eqb-true, leb-true, leb-false, lt-ltb, le-ltb}
 use lib.Dec.{eqb, ltb, leb}
 use lib.ListN.{length, getD}
 use Rattle.area.specs.Area.{isArea, storable, loadedOf}
+use Rattle.bus_laws.proofs.Ten.{ten-read-only}
 use Rattle.bus.specs.Transact.{packSide, transactAnswer, transactOf}
 use Rattle.capture.specs.Capture.{isCapture}
 use Rattle.capture.specs.Walk.{openedOf, seenBad}
@@ -21,6 +22,8 @@ use Rattle.commands.specs.Answers.{Side, sideAnswer, requestAnswer, readAnswer,
 use Rattle.commands.specs.Commands.{kindOf}
 use Rattle.commands.specs.declared.Kind.{Kind}
 use Rattle.commands.specs.declared.Kind.the-variants.{ReadWrite, ReadOnly, Block, Optional, Reserved}
+use Rattle.gauge_laws.proofs.Minutes.{ten-exactly}
+use Rattle.gauge_laws.specs.Minutes.{isTen}
 use Rattle.frame.specs.Transactions.{requestOf, foreign, misshapen, miscoded, writeOf}
 use Rattle.frame.specs.declared.Request.the-variants.{Refused, Read}
 use Rattle.names.specs.Names.{nameIn, plainWrote}
@@ -214,27 +217,22 @@ under-read : (read : Bool) (n : ℕ) → cond read n n ≡ n
 under-read true n = refl
 under-read false n = refl
 
--- a row's answer is the first of 6 to 10 that holds; only a word that is read only is AtRateTimeToFull
-by-row : (d : Side) (command : ℕ) (k : Kind) (read good atRate power : Bool)
-    → (atRate ≡ true → k ≡ ReadOnly) → d .blockAnswer command ≡ cond good 0 9 → d .wordAnswer command ≡ cond (atRate && power) 10 0
+-- a row's answer is the first of 6 to 10 that holds; only a word that is read only is answered 10
+by-row : (d : Side) (command : ℕ) (k : Kind) (read good ten : Bool)
+    → (ten ≡ true → k ≡ ReadOnly) → d .blockAnswer command ≡ cond good 0 9 → d .wordAnswer command ≡ cond ten 10 0
     → cond read (readAnswer d command k) (writeAnswer k)
-    ≡ firstHolding ((6 when isReserved k) ∷ (7 when isOptional k) ∷ (8 when (not read && isReadOnly k)) ∷ (9 when (read && (isBlock k && not good))) ∷ (10 when (read && (atRate && power))) ∷ [])
+    ≡ firstHolding ((6 when isReserved k) ∷ (7 when isOptional k) ∷ (8 when (not read && isReadOnly k)) ∷ (9 when (read && (isBlock k && not good))) ∷ (10 when (read && ten)) ∷ [])
 unfolding firstHolding
-by-row d command Reserved read good atRate power only block word = under-read read 6
-by-row d command Optional read good atRate power only block word = under-read read 7
-by-row d command Block true good true power only block word = absurd (let z : _≡_ {A = Bool} true false = ap isBlock (only refl) in let y : _≡_ {A = ℕ} 0 1 = cc in omega arith)
-by-row d command Block true true false power only block word = block
-by-row d command Block true false false power only block word = block
-by-row d command ReadOnly true good atRate power only block word = word
-by-row d command ReadWrite true good atRate power only block word = word
-by-row d command Block false good atRate power only block word = refl
-by-row d command ReadOnly false good atRate power only block word = refl
-by-row d command ReadWrite false good atRate power only block word = refl
-
--- AtRateTimeToFull is read only
-at-rate : (command : ℕ) → eqb command 0x05 ≡ true → kindOf command ≡ ReadOnly
-unfolding kindOf
-at-rate command h = ap kindOf (eqb-true command 0x05 h)
+by-row d command Reserved read good ten only block word = under-read read 6
+by-row d command Optional read good ten only block word = under-read read 7
+by-row d command Block true good true only block word = absurd (let z : _≡_ {A = Bool} true false = ap isBlock (only refl) in let y : _≡_ {A = ℕ} 0 1 = cc in omega arith)
+by-row d command Block true true false only block word = block
+by-row d command Block true false false only block word = block
+by-row d command ReadOnly true good ten only block word = word
+by-row d command ReadWrite true good ten only block word = word
+by-row d command Block false good ten only block word = refl
+by-row d command ReadOnly false good ten only block word = refl
+by-row d command ReadWrite false good ten only block word = refl
 
 pub transact-lowest : TransactLowest
 unfolding transactOf transactAnswer sideAnswer requestOf firstHolding rising allAbove blockAnswer
@@ -243,5 +241,5 @@ transact-lowest s service factory read bytes room =
     ap (λ a. cond (not (soundOf s)) 1 (cond (ltb room 34) 2 a))
     (asks d (foreign 0x16 bytes) (misshapen 0x16 read bytes) (miscoded read bytes) read bytes (eqb (length bytes) 5)
     ∙ ap (λ a. cond (foreign 0x16 bytes) 3 (cond (misshapen 0x16 read bytes) 4 (cond (miscoded read bytes) 5 a)))
-    (by-row d (commandOf bytes) (kindOf (commandOf bytes)) read (goodSheets service factory) (eqb (commandOf bytes) 0x05) (s .pack .host .CapacityMode) (at-rate (commandOf bytes)) refl refl))
+    (by-row d (commandOf bytes) (kindOf (commandOf bytes)) read (goodSheets service factory) (isTen (s .pack) (commandOf bytes)) (ten-read-only (s .pack) (commandOf bytes)) refl (ten-exactly s (commandOf bytes))))
     ∙ sym (first-is-lowest (transactConditions s service factory read bytes room) refl)

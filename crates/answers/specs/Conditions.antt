@@ -14,6 +14,7 @@ use Rattle.commands.specs.Commands.{kindOf}
 use Rattle.commands.specs.declared.Kind.{Kind}
 use Rattle.commands.specs.declared.Kind.the-variants.{ReadWrite, ReadOnly, Block, Optional, Reserved}
 use Rattle.frame.specs.Transactions.{foreign, misshapen, miscoded}
+use Rattle.gauge_laws.specs.Minutes.{isTen}
 use Rattle.names.specs.Names.{nameIn}
 use Rattle.key.specs.Key.{readKey}
 use Rattle.pack.specs.Sound.{soundOf}
@@ -66,7 +67,7 @@ isBlock ReadOnly = false
 isBlock ReadWrite = false
 
 -- 1: state isn't sound; 2: lent reply room under 34 bytes; 3: empty, or first byte isn't 0x16; 4: wrong size or form; 5: five-byte write, PEC wrong;
--- 6: reserved command; 7: optional command not built; 8: write to a read-only command; 9: block read, a sheet is bad; 10: AtRateTimeToFull in power mode (RULES 1.1 to 1.10)
+-- 6: reserved command; 7: optional command not built; 8: write to a read-only command; 9: block read, a sheet is bad; 10: AtRateTimeToFull in power mode, or a time beyond the range (RULES 1.1 to 1.10)
 abbrev pub transactConditions : State → List ℕ → List ℕ → Bool → List ℕ → ℕ → List Condition
 transactConditions s service factory read bytes room =
     (1 when not (soundOf s))
@@ -78,7 +79,7 @@ transactConditions s service factory read bytes room =
     ∷ (7 when isOptional (kindOf (commandOf bytes)))
     ∷ (8 when (not read && isReadOnly (kindOf (commandOf bytes))))
     ∷ (9 when (read && (isBlock (kindOf (commandOf bytes)) && not (goodSheets service factory))))
-    ∷ (10 when (read && (eqb (commandOf bytes) 0x05 && s .pack .host .CapacityMode)))
+    ∷ (10 when (read && isTen (s .pack) (commandOf bytes)))
     ∷ []
 
 -- ---- the state

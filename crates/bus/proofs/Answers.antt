@@ -1,10 +1,9 @@
 -- What a transaction gives, by its answer and by its request.
 -- Assumes nothing.
 use Prim.Native.Nat.{ℕ, _<_, _≤_}
-use mathlib.Core.Bool.{Bool, true, false, cond, _&&_}
+use mathlib.Core.Bool.{Bool, true, false, cond}
 use mathlib.Core.List.{List, []}
 use mathlib.Core.Path.{_≡_, refl, ap, ap₂, sym, _∙_}
-use lib.Dec.{eqb}
 use lib.ListN.{length}
 use Rattle.bus.specs.Transact.{packSide, packAfter, outcome, asked, requestGiven, transactAnswer, transactReply, transactOf, replyRoom}
 use Rattle.commands.proofs.Answers as commands
@@ -13,7 +12,11 @@ use Rattle.commands.specs.declared.Kind.the-variants.{ReadOnly}
 use Rattle.frame.specs.Transactions.{replyOf, wordBody}
 use Rattle.frame.specs.declared.Request.{Request}
 use Rattle.frame.specs.declared.Request.the-variants.{Refused, Read, Write}
-use Rattle.gauge.specs.Word.{wordOf}
+use Rattle.gauge.specs.Word.{givenOf, wordOf}
+use Rattle.minutes.specs.Minutes.{givenAnswer}
+use Rattle.minutes.specs.declared.Given.{Given}
+use Rattle.minutes.specs.declared.Given.the-variants.{Word, Until, NoTime}
+use Rattle.minutes.specs.declared.Time.the-variants.{Minutes, Beyond, NotMoving}
 use Rattle.pack.specs.Sound.{soundOf}
 use Rattle.pack.specs.declared.Pack.{Pack}
 use Rattle.pack.specs.declared.State.{State}
@@ -94,10 +97,13 @@ by-request s service factory read bytes room request sound fits e = (
 
 -- ---- a word read is served, with answer 0 or 10
 
-word-served : (power : Bool) (reply : List ℕ) → reply ≡ cond (served (cond power 10 0)) reply []
-word-served true reply = refl
-word-served false reply = refl
+word-served : (g : Given) (reply : List ℕ) → reply ≡ cond (served (givenAnswer g)) reply []
+word-served (Word w) reply = refl
+word-served (Until (Minutes m)) reply = refl
+word-served (Until Beyond) reply = refl
+word-served (Until NotMoving) reply = refl
+word-served NoTime reply = refl
 
 pub word-reply : (s : State) (service factory bytes : List ℕ) (command : ℕ)
     → replyOf bytes (wordBody (wordOf s command)) ≡ rowReply (packSide s service factory) bytes command ReadOnly
-word-reply s service factory bytes command = word-served (eqb command 0x05 && s .pack .host .CapacityMode) (replyOf bytes (wordBody (wordOf s command)))
+word-reply s service factory bytes command = word-served (givenOf s command) (replyOf bytes (wordBody (wordOf s command)))

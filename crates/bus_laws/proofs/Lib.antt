@@ -7,3 +7,4 @@ pub mod ReadBack
 pub mod EveryRow
 pub mod WrongReadings
 pub mod Status
+pub mod Ten

@@ -20,7 +20,8 @@ use Rattle.commands.specs.declared.Kind.the-variants.{ReadWrite, ReadOnly, Bloc
 use Rattle.frame.specs.Transactions.{replyOf, wordBody}
 use Rattle.frame.specs.declared.Request.{Request}
 use Rattle.frame.specs.declared.Request.the-variants.{Write}
-use Rattle.gauge.specs.Word.{wordOf, wordAnswer}
+use Rattle.gauge.specs.Word.{givenOf, wordOf, wordAnswer}
+use Rattle.gauge_laws.proofs.Minutes.{ten-exactly}
 use Rattle.gauge_laws.proofs.Words as words
 use Rattle.pack.specs.Sound.{soundOf}
 use Rattle.pack.specs.declared.Pack.{Pack}
@@ -64,12 +65,15 @@ first-five command k = go (leb command 4) refl
 
 -- a read of these is answered 0
 answered : (s : State) (command : ℕ) → command ≤ 4 → wordAnswer s command ≡ 0
-answered s command l = simp (ne-eqb command 0x05 (λ e. omega arith))
+answered s command l = ten-exactly s command ∙ simp (other 0x05 (omega arith), other 0x06 (omega arith), other 0x11 (omega arith), other 0x12 (omega arith), other 0x13 (omega arith))
+  where
+    other : (key : ℕ) → 5 ≤ key → eqb command key ≡ false
+    other key h = ne-eqb command key (λ e. omega (arith, l, h, e))
 
 -- ---- the word that a register keeps
 
 kept : (p : Pack) (code command word : ℕ) → command ≤ 4 → wordOf (record { error = code; pack = packWritten p command word }) command ≡ keptWord command word
-unfolding wordOf packWritten hostWritten
+unfolding givenOf packWritten hostWritten
 kept p code zero word l = refl
 kept p code (suc zero) word l = refl
 kept p code (suc (suc zero)) word l = refl
@@ -130,7 +134,7 @@ written-read s w t r command word writes taken sound pack-left reads room =
 
 other-words : (p : Pack) (code left written word command : ℕ) → command ≤ 4 → (command ≡ written → ⊥)
     → wordOf (record { error = left; pack = packWritten p written word }) command ≡ wordOf (record { error = code; pack = p }) command
-unfolding wordOf packWritten hostWritten
+unfolding givenOf packWritten hostWritten
 other-words p code left written word zero l n = simp (ne-eqb written 0 (λ e. n (sym e)))
 other-words p code left written word (suc zero) l n = simp (ne-eqb written 1 (λ e. n (sym e)))
 other-words p code left written word (suc (suc zero)) l n = simp (ne-eqb written 2 (λ e. n (sym e)))

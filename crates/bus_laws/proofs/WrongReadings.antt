@@ -1,7 +1,7 @@
 -- Wrong readings of the page, shut out: 11 to 13 are no charger commands at 0x16, and 0x12 is another's address.
 -- Assumes nothing.
 use Prim.Native.Nat.{ℕ, _≤_}
-use mathlib.Core.Bool.{true}
+use mathlib.Core.Bool.{Bool, true, false, cond}
 use mathlib.Core.List.{_∷_}
 use mathlib.Core.Logic.{inl}
 use mathlib.Core.Path.{_≡_, refl, ap, _∙_}
@@ -21,30 +21,37 @@ use Rattle.commands.specs.declared.Kind.the-variants.{ReadOnly}
 use Rattle.frame.specs.Transactions.{foreign, replyOf, wordBody}
 use Rattle.frame.specs.declared.Request.the-variants.{Refused}
 use Rattle.frame_laws.proofs.Requests.{refused-is}
-use Rattle.gauge.specs.Word.{wordOf, wordAnswer}
+use Rattle.gauge.specs.Word.{givenOf}
+use Rattle.minutes.specs.Minutes.{timeWord, wasCutOff, givenWord, givenAnswer}
+use Rattle.minutes.specs.declared.Given.the-variants.{Until}
+use Rattle.minutes.specs.declared.Time.{Time}
 use Rattle.pack.specs.Sound.{soundOf}
 use Rattle.pack.specs.declared.State.{State}
 
--- a read-only row whose word is answered 0
-reads-only : (s : State) (c : Call) (command word : ℕ) → soundOf s ≡ true → 34 ≤ c .room
-    → kindOf command ≡ ReadOnly → wordAnswer s command ≡ 0 → wordOf s command ≡ word → ReadsOnly s c command word
-reads-only s c command word sound room k a w = (λ r. (none r, shown r), λ written h. write-answer s c command written sound room h ∙ ap writeAnswer k)
-  where
-    none : Reads c command → answer s c ≡ 0
-    none r = read-answer s c command sound room r ∙ ap (λ (q : Kind). readAnswer (packSide s (c .service) (c .factory)) command q) k ∙ a
+either-served : (b : Bool) → served (cond b 10 0) ≡ true
+either-served true = refl
+either-served false = refl
 
-    shown : Reads c command → reply s c ≡ replyOf (c .bytes) (wordBody word)
+-- a read-only row that gives a time
+reads-only : (s : State) (c : Call) (command : ℕ) (t : Time) → soundOf s ≡ true → 34 ≤ c .room
+    → kindOf command ≡ ReadOnly → givenOf s command ≡ Until t → ReadsOnly s c command t
+reads-only s c command t sound room k g = (λ r. (by-time r, shown r), λ written h. write-answer s c command written sound room h ∙ ap writeAnswer k)
+  where
+    by-time : Reads c command → answer s c ≡ cond (wasCutOff t) 10 0
+    by-time r = read-answer s c command sound room r ∙ ap (λ (q : Kind). readAnswer (packSide s (c .service) (c .factory)) command q) k ∙ ap (λ x. givenAnswer x) g
+
+    shown : Reads c command → reply s c ≡ replyOf (c .bytes) (wordBody (timeWord t))
     shown r =
-        served-reply s c command r (ap (λ (n : ℕ). served n) (none r))
+        served-reply s c command r (ap (λ (n : ℕ). served n) (by-time r) ∙ either-served (wasCutOff t))
         ∙ ap (λ (q : Kind). replyOf (c .bytes) (readBody (packSide s (c .service) (c .factory)) command q)) k
-        ∙ ap (λ (x : ℕ). replyOf (c .bytes) (wordBody x)) w
+        ∙ ap (λ x. replyOf (c .bytes) (wordBody (givenWord x))) g
 
 pub no-charger-commands : NoChargerCommands
-unfolding kindOf wordOf
+unfolding kindOf givenOf
 no-charger-commands s c sound room = (
-  reads-only s c 0x11 _ sound room refl refl refl,
-  reads-only s c 0x12 _ sound room refl refl refl,
-  reads-only s c 0x13 _ sound room refl refl refl,
+  reads-only s c 0x11 _ sound room refl refl,
+  reads-only s c 0x12 _ sound room refl refl,
+  reads-only s c 0x13 _ sound room refl refl,
 )
 
 pub other-addresses : OtherAddresses

@@ -13,6 +13,8 @@ use Rattle.commands_laws.specs.Visits.{Visit}
 use Rattle.frame.specs.Transactions.{readBytes, replyOf, wordBody}
 use Rattle.frame_laws.specs.Requests.{WriteBytes}
 use Rattle.gauge.specs.Word.{wordOf}
+use Rattle.minutes.specs.Minutes.{timeWord, wasCutOff}
+use Rattle.minutes.specs.declared.Time.{Time}
 use Rattle.pack.specs.Fits.{PackFits}
 use Rattle.pack.specs.declared.State.{State}
 use Rattle.registers.specs.Registers.{bit}
@@ -56,10 +58,10 @@ Reads c command = (c .read ≡ true) × (c .bytes ≡ readBytes 0x16 command)
 abbrev pub Writes : Call → ℕ → ℕ → Type 0
 Writes c command word = (c .read ≡ false) × ((checked : Bool) × WriteBytes 0x16 command word checked (c .bytes))
 
--- to a call a command is read only, with that word: a right read is answered 0 and shows it, a right write is answered 8
-abbrev pub ReadsOnly : State → Call → ℕ → ℕ → Type 0
-ReadsOnly s c command word =
-    (Reads c command → (answer s c ≡ 0) × (reply s c ≡ replyOf (c .bytes) (wordBody word)))
+-- to a call a command is read only, with that time: a right read is answered 0, where it was cut off 10, and shows its word; a right write is answered 8
+abbrev pub ReadsOnly : State → Call → ℕ → Time → Type 0
+ReadsOnly s c command t =
+    (Reads c command → (answer s c ≡ cond (wasCutOff t) 10 0) × (reply s c ≡ replyOf (c .bytes) (wordBody (timeWord t))))
     × ((written : ℕ) → Writes c command written → answer s c ≡ 8)
 
 -- no register but the error bits differs: every word but BatteryStatus, and BatteryStatus but for its low four bits

@@ -16,6 +16,7 @@ use Rattle.commands_laws.specs.Visits.{visitBody}
 use Rattle.frame.specs.Transactions.{readBytes, replyOf, wordBody}
 use Rattle.frame_laws.specs.Exchanges.{Accepts, FarApart}
 use Rattle.gauge.specs.Word.{wordOf}
+use Rattle.gauge_laws.specs.Minutes.{isTen}
 use Rattle.pack.specs.Fits.{Fits}
 use Rattle.pack.specs.Sound.{soundOf}
 use Rattle.pack.specs.declared.State.{State}
@@ -27,17 +28,23 @@ use Rattle.sheet.specs.Block.{goodSheets}
 
 -- ---- rows
 
--- a right read is answered by its command's row: 9 for a block with a bad sheet, 10 for 05 in power mode
+-- a right read is answered by its command's row: 9 for a block with a bad sheet, 10 for 05 in power mode and for a time beyond the range
 abbrev pub ReadRow : Type 0
 ReadRow =
     (s : State) (c : Call) (command : ℕ) → command < 256 → soundOf s ≡ true → 34 ≤ c .room → Reads c command
-    → answer s c ≡ getD (readRows (cond (s .pack .host .CapacityMode) 10 0) (cond (goodSheets (c .service) (c .factory)) 0 9)) command 0
+    → answer s c ≡ getD (readRows (λ n. cond (isTen (s .pack) n) 10 0) (cond (goodSheets (c .service) (c .factory)) 0 9)) command 0
 
 -- a right write is answered by its command's row, whatever the word
 abbrev pub WriteRow : Type 0
 WriteRow =
     (s : State) (c : Call) (command word : ℕ) → command < 256 → soundOf s ≡ true → 34 ≤ c .room → Writes c command word
     → answer s c ≡ getD writeRows command 0
+
+-- a right read is answered 10 exactly when it is 05 in power mode, or one of 05, 06, 11, 12 and 13 is beyond the range
+abbrev pub TenAnswered : Type 0
+TenAnswered =
+    (s : State) (c : Call) (command : ℕ) → soundOf s ≡ true → 34 ≤ c .room → Reads c command
+    → (answer s c ≡ 10 → isTen (s .pack) command ≡ true) × (isTen (s .pack) command ≡ true → answer s c ≡ 10)
 
 -- ---- wrong readings shut out
 
@@ -129,6 +136,12 @@ StatusShows =
 abbrev pub StatusLeaves : Type 0
 StatusLeaves =
     (s : State) (c : Call) → soundOf s ≡ true → 34 ≤ c .room → Reads c 0x16 → result s c .state ≡ record { error = 0; pack = s .pack }
+
+-- after answer 10 it shows 5, and leaves 0
+abbrev pub TenShows : Type 0
+TenShows =
+    (s : State) (c : Call) (t : State) (d : Call) → answer s c ≡ 10 → t ≡ result s c .state → 34 ≤ d .room → Reads d 0x16
+    → (reply t d ≡ replyOf (d .bytes) (wordBody (wordOf t 0x16))) × (wordOf t 0x16 % 16 ≡ 5) × (result t d .state ≡ record { error = 0; pack = t .pack })
 
 -- a right five-byte write altered in one to three bits, on any state and room, keeps the pack
 abbrev pub AlteredKeeps : Type 0

@@ -4,20 +4,15 @@ use Prim.Native.Nat.{ℕ, _/_, _≤_}
 use mathlib.Core.Bool.{Bool, true, false, cond}
 use native.Mathlib.Omega.{arith}
 use native.Mathlib.Nat.{mul-le-mul-right}
-use lib.Dec.{eqb}
-use Rattle.capacity.specs.Capacity.{minutesOf, powerOf, energyOf, milliampMs}
+use Rattle.capacity.specs.Capacity.{powerOf, energyOf, milliampMs}
 
 -- what holds of both holds of the one chosen
-pub either : (P : ℕ → Type 0) (b : Bool) (x y : ℕ) → P x → P y → P (cond b x y)
+pub either : {A : Type 0} (P : A → Type 0) (b : Bool) (x y : A) → P x → P y → P (cond b x y)
 either P true x y f g = f
 either P false x y f g = g
 
 pub at-most : (b : Bool) (x y most : ℕ) → x ≤ most → y ≤ most → cond b x y ≤ most
 at-most b x y most = either (λ n. n ≤ most) b x y
-
--- minutes are at most 65,534
-pub minutes-most : (capacity rate : ℕ) → minutesOf capacity rate ≤ 65534
-minutes-most capacity rate = at-most (eqb rate 0) _ _ _ (omega arith) (omega arith)
 
 -- in whole mAh, charge up to full shows at most full
 pub mAh-most : (charge full : ℕ) → charge ≤ milliampMs full → charge / 3600000 ≤ full

@@ -8,10 +8,6 @@ use lib.Dec.{eqb, leb}
 abbrev pub milliampMs : ℕ → ℕ
 milliampMs capacity = capacity * 3600000
 
--- capacity by rate: floor(60 × capacity ÷ rate), capped at 65,534; a rate that rounds to 0 gives 65,534 (RULES 6.5, 6.17)
-abbrev pub minutesOf : ℕ → ℕ → ℕ
-minutesOf capacity rate = cond (eqb rate 0) 65534 (min 65534 (60 * capacity / rate))
-
 -- in 10 mWh (of mAh) or 10 mW (of mA): floor(amount × voltage ÷ 10,000) (RULES 6.15, 6.17)
 abbrev pub powerOf : ℕ → ℕ → ℕ
 powerOf amount voltage = amount * voltage / 10000

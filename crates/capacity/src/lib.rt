@@ -1,7 +1,7 @@
-// Products from 16-bit parts, and the rules of capacity: minutes by rate, 10 mWh, percent and bit 4. Only our own crates call these.
+// Products from 16-bit parts, and the rules of capacity: 10 mWh, percent and bit 4. Only our own crates call these.
 ghost use mathlib.Core.Path.{_≡_};
 ghost use Prim.Native.Nat.{_+_, _*_, _%_, _^_, _≤_, _<_};
-ghost use Rattle.capacity.specs.Capacity.{minutesOf, powerOf, energyOf, cappedWord, milliampMs, percentOf, relativeOf, fullyDischargedOf};
+ghost use Rattle.capacity.specs.Capacity.{powerOf, energyOf, cappedWord, milliampMs, percentOf, relativeOf, fullyDischargedOf};
 
 // 16 bits by 16: the one multiply that the pack's processor has, and the only one here.
 pub fn product16(a: u16, b: u16) -> u32
@@ -36,17 +36,6 @@ pub fn product(amount: u64, factor: u16) -> u64
     let high = carried(low16(above >> 16), factor, middle >> 16);
     let below = ((middle % 65536) << 16) + low % 65536;
     ((high as u64) << 32) + (below as u64)
-}
-
-// Capacity by rate.
-pub fn minutes(capacity: u16, rate: u32) -> u16
-    ensures { λ r. ⌜ r ≡ minutesOf capacity rate ⌝ }
-{
-    if rate == 0 {
-        return 65534;
-    }
-    let m = product16(60, capacity) / rate;
-    if m < 65534 { m as u16 } else { 65534 }
 }
 
 pub fn capped(x: u64) -> u16

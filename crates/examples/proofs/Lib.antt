@@ -1,3 +1,4 @@
 pub mod Twelve
 pub mod Learned
 pub mod Broadcasts
+pub mod Minutes

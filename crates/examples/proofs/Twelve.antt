@@ -4,7 +4,7 @@ use mathlib.Core.Path.{refl}
 use Rattle.recent.specs.Recent.{averageOf, sumOf}
 use Rattle.seconds.specs.Seconds.{recentAfter}
 use Rattle.examples.specs.Examples.{examples, AsExpected}
-use Rattle.gauge.specs.Word.{wordOf}
+use Rattle.gauge.specs.Word.{givenOf}
 use Rattle.key.specs.Key.{keyOf, hexWord}
 use Rattle.start.specs.SetUp.{packOf}
 use Rattle.pec.specs.Pec.{pecOf, pecFrom, byteStep, bitStep}
@@ -12,5 +12,5 @@ use Rattle.registers.specs.Registers.{remainingCapacity}
 use Rattle.written.specs.Written.{hostWritten, packWritten}
 
 pub twelve : AsExpected
-unfolding examples recentAfter averageOf sumOf hostWritten packWritten wordOf keyOf hexWord packOf pecOf pecFrom byteStep bitStep remainingCapacity
+unfolding examples recentAfter averageOf sumOf hostWritten packWritten givenOf keyOf hexWord packOf pecOf pecFrom byteStep bitStep remainingCapacity
 twelve = refl

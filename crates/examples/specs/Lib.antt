@@ -1,3 +1,4 @@
 pub mod Examples
 pub mod Learned
 pub mod Broadcasts
+pub mod Minutes

@@ -1,3 +1,4 @@
 pub mod Bits
+pub mod Minutes
 pub mod Range
 pub mod Words

@@ -7,9 +7,9 @@ use native.Mathlib.Omega.{arith}
 use borrow.Author.Tests.{ne-eqb}
 use Rattle.alarms.specs.Alarms.{terminateCharge}
 use Rattle.status.specs.Status.{statusBits}
-use Rattle.gauge.specs.Word.{wordOf}
+use Rattle.gauge.specs.Word.{givenOf, wordOf}
 use Rattle.gauge_laws.proofs.Bits.{above-code, bits-stand}
-use Rattle.gauge_laws.specs.Promises.{digit, Initially, InitialWords, AlwaysInitialized, CutOff, RemainingAtMostFull}
+use Rattle.gauge_laws.specs.Promises.{digit, Initially, InitialWords, AlwaysInitialized, ChargingCurrentOff, RemainingAtMostFull}
 use Rattle.pack.proofs.Soundness.{parts, pack-of-sound}
 use Rattle.start.specs.SetUp.{setUpOf, setUpRefused, packOf, zeroState}
 use Rattle.pack.specs.declared.Sample.{Sample}
@@ -21,28 +21,28 @@ use Rattle.registers.specs.Registers.{designCapacity}
 
 -- the error code shows in no word but 16
 pub other-words : (s t : State) (command : ℕ) → s .pack ≡ t .pack → (command ≡ 0x16 → ⊥) → wordOf s command ≡ wordOf t command
-unfolding wordOf
+unfolding givenOf
 other-words s t command e n = simp (ne-eqb command 0x16 n, e)
 
 -- and there only in the low four bits
 pub status-above-code : (s t : State) → s .pack ≡ t .pack → s .error < 16 → t .error < 16 → wordOf s 0x16 / 16 ≡ wordOf t 0x16 / 16
-unfolding wordOf
+unfolding givenOf
 status-above-code s t e l m =
     above-code (s .pack) (s .error) l ∙ ap (λ p. statusBits p / 16) e ∙ sym (above-code (t .pack) (t .error) m)
 
 -- which are it
 pub status-code : (s : State) → s .error < 16 → wordOf s 0x16 % 16 ≡ s .error
-unfolding wordOf
+unfolding givenOf
 status-code s l = bits-stand (s .pack) (s .error) l .error-code
 
 -- INITIALIZED is always 1
 pub initialized : AlwaysInitialized
-unfolding wordOf
+unfolding givenOf
 initialized s l = bits-stand (s .pack) (s .error) l .INITIALIZED
 
 -- 0F is never above 10
 pub remaining-word-most : RemainingAtMostFull
-unfolding wordOf
+unfolding givenOf
 remaining-word-most s h = remaining-at-most-full (s .pack) (parts (s .pack) (pack-of-sound s h) .tank)
 
 set : (on : Bool) (x : ℕ) → digit on ≡ 1 → cond on 0 x ≡ 0
@@ -50,9 +50,9 @@ set true x h = refl
 set false x h = absurd (omega arith)
 
 -- 14 is 0 while bit 14 of 16 is set
-pub cut-off : CutOff
-unfolding wordOf
-cut-off s l h = set (terminateCharge (s .pack)) _ (sym (bits-stand (s .pack) (s .error) l .TERMINATE_CHARGE) ∙ h)
+pub charging-current-off : ChargingCurrentOff
+unfolding givenOf
+charging-current-off s l h = set (terminateCharge (s .pack)) _ (sym (bits-stand (s .pack) (s .error) l .TERMINATE_CHARGE) ∙ h)
 
 abbrev refused : Started
 refused = record { answer = 11; state = zeroState }
@@ -65,7 +65,7 @@ chosen u first true h = absurd (omega (arith, h))
 chosen u first false h = refl
 
 at-first : (u : Setup) (first : Sample) → Initially (served u first .state)
-unfolding wordOf designCapacity packOf
+unfolding givenOf designCapacity packOf
 at-first u first =
     record {
       RemainingCapacityAlarm = refl;

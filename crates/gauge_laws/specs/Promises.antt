@@ -43,8 +43,8 @@ abbrev pub EachBit : Type 0
 EachBit = (p : Pack) (code : ℕ) → code < 16 → BitsStand p code (batteryStatus p code)
 
 -- 2. 14 is 0 while bit 14 of 16 is set
-abbrev pub CutOff : Type 0
-CutOff = (s : State) → s .error < 16 → bitOf 14 (wordOf s 0x16) ≡ 1 → wordOf s 0x14 ≡ 0
+abbrev pub ChargingCurrentOff : Type 0
+ChargingCurrentOff = (s : State) → s .error < 16 → bitOf 14 (wordOf s 0x16) ≡ 1 → wordOf s 0x14 ≡ 0
 
 -- 002, 4.4.1: the words of a pack at first
 pub record Initially (s : State) : Type 0 where

@@ -21,6 +21,7 @@ use Rattle.frame_laws.proofs.Requests.{read-is}
 use Rattle.frame.specs.Transactions.{replyOf, wordBody}
 use Rattle.frame.specs.declared.Request.{Request}
 use Rattle.frame.specs.declared.Request.the-variants.{Refused, Read, Write}
+use Rattle.gauge_laws.proofs.Minutes.{same-answer}
 use Rattle.gauge_laws.proofs.Words.{other-words, status-above-code}
 use Rattle.pack.proofs.Soundness.{code-of-sound}
 use Rattle.pack.specs.declared.Pack.{Pack}
@@ -53,8 +54,8 @@ module _ (s t : State) (h : SameBut s t) where
 
   row-answer : (c : Call) (command : ℕ) (k : Kind) → readAnswer (packSide s (c .service) (c .factory)) command k ≡ readAnswer (packSide t (c .service) (c .factory)) command k
   row-answer c command Block = refl
-  row-answer c command ReadOnly = simp (h .pack)
-  row-answer c command ReadWrite = simp (h .pack)
+  row-answer c command ReadOnly = same-answer s t command (h .pack)
+  row-answer c command ReadWrite = same-answer s t command (h .pack)
   row-answer c command Optional = refl
   row-answer c command Reserved = refl
 

@@ -20,7 +20,7 @@ use Rattle.frame.specs.declared.Request.{Request}
 use Rattle.frame.specs.declared.Request.the-variants.{Refused, Read, Write}
 use Rattle.frame_laws.proofs.Broadcasts.{pec-off}
 use Rattle.frame_laws.specs.Broadcasts.{withoutPec}
-use Rattle.gauge.specs.Word.{wordOf}
+use Rattle.gauge.specs.Word.{givenOf}
 use Rattle.pack.proofs.Choice.{sound-as}
 use Rattle.pack.specs.Choice.{packAs, stateAs}
 use Rattle.pack.specs.Sound.{soundOf, packSound, settingsSound}
@@ -52,7 +52,7 @@ messages-as plain p x = refl
 
 -- the pack's side of the bus: its words, and that it is sound
 side-as : (plain : Bool) (s : State) (service factory : List ℕ) → packSide (stateAs plain s) service factory ≡ packSide s service factory
-unfolding soundOf packSound settingsSound wordOf remainingCapacity fullChargeCapacity designCapacity statusBits
+unfolding soundOf packSound settingsSound givenOf remainingCapacity fullChargeCapacity designCapacity statusBits
 side-as plain s service factory = refl
 
 -- what a request leaves of the pack

@@ -12,7 +12,7 @@ use Rattle.capacity.specs.Capacity.{milliampMs}
 use Rattle.clock_laws.proofs.Charge.{drawn-true}
 use Rattle.clock_laws.specs.Steps.{gap}
 use Rattle.cycles.specs.Cycles.{drawnBy}
-use Rattle.gauge.specs.Word.{wordOf}
+use Rattle.gauge.specs.Word.{givenOf}
 use Rattle.pack.proofs.Soundness.{toward-fact, parts, pack-of-sound}
 use Rattle.pack.specs.Kept.{latestOf}
 use Rattle.pack.specs.Sound.{soundOf}
@@ -137,7 +137,7 @@ since u first es a f =
     (cycles-from s es (set-up-sound u first a) f)
 
 pub cycles-since-set-up : CyclesSinceSetUp
-unfolding wordOf
+unfolding givenOf
 cycles-since-set-up u first es a l f =
     since u first es a f .cycles (omega (arith, l)) ∙ ap (λ (d : ℕ). min 65535 (u .CycleCount + d / milliampMs (u .DesignCapacity))) (zero-add (drawnOver (fromSetUp u first) es))
 

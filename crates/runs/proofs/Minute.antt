@@ -9,7 +9,7 @@ use mir.Facts.{toZ-ofZ}
 use mir.Syntax.{w16}
 use mir.Val.{SFits, toZ, ofZ}
 use Rattle.clock.specs.Sample.{elapsedOf}
-use Rattle.gauge.specs.Word.{wordOf}
+use Rattle.gauge.specs.Word.{givenOf}
 use Rattle.pack.specs.Kept.{latestOf}
 use Rattle.pack.specs.declared.Latest.{Latest}
 use Rattle.pack.specs.declared.Pack.{Pack}
@@ -69,7 +69,7 @@ latest-fits y [] f = f .0
 latest-fits y (x ∷ xs) f = latest-fits x xs (f .1)
 
 pub average-since-set-up : AverageSinceSetUp
-unfolding wordOf packOf
+unfolding givenOf packOf
 average-since-set-up u first es a f =
     let s = fromSetUp u first in
     let xs = acceptedOf s es in

@@ -1,31 +1,23 @@
-// The words of times and AtRateOK: pure functions of the pack. Only our own crates call these.
+// The times of 05, 06 and 11 to 13, and AtRateOK: pure functions of the pack. Only our own crates call these.
 ghost use mathlib.Core.Path.{_≡_};
 ghost use mathlib.Core.Bool.{true};
 ghost use Prim.Native.Nat.{_≤_};
-ghost use Rattle.times.specs.Times.{minutesIf, missing, atRateTimeToEmpty, atRateTimeToFull, presentDischarge, covers, atRateOK, rateOf, timeToEmptyAt, runTimeToEmpty, averageTimeToEmpty, averageTimeToFull};
+ghost use Rattle.times.specs.Times.{missing, atRateTimeToEmpty, atRateTimeToFull, presentDischarge, covers, atRateOK, rateOf, timeToEmptyAt, runTimeToEmpty, averageTimeToEmpty, averageTimeToFull};
 ghost use Rattle.pack.specs.Sound.{tankSound};
 ghost use Rattle.recent.specs.Recent.{recentSound};
+use minutes::Given;
+use minutes::Time;
 use pack::Pack;
 
-// Minutes if the rate flows the command's way.
-fn minutes_if(flows: bool, capacity: u16, rate: u32) -> u16
-    ensures { λ r. ⌜ r ≡ minutesIf flows capacity rate ⌝ }
-{
-    if flows {
-        return capacity::minutes(capacity, rate);
-    }
-    65535
-}
-
 // 06 AtRateTimeToEmpty.
-pub fn at_rate_time_to_empty(p: Pack) -> u16
+pub fn at_rate_time_to_empty(p: Pack) -> Time
     requires { ⌜ tankSound (p .tank) ≡ true ⌝ }
     ensures { λ r. ⌜ r ≡ atRateTimeToEmpty p ⌝ }
 {
     let flows = words::falls(p.host.AtRate);
     let remaining = registers::remaining_capacity(p);
     let rate = words::size(p.host.AtRate);
-    minutes_if(flows, remaining, rate)
+    minutes::by_rate(flows, remaining, rate)
 }
 
 // Full minus remaining, of the words 10 and 0F.
@@ -39,17 +31,17 @@ fn missing_capacity(p: Pack) -> u16
 }
 
 // 05 AtRateTimeToFull.
-pub fn at_rate_time_to_full(p: Pack) -> u16
+pub fn at_rate_time_to_full(p: Pack) -> Given
     requires { ⌜ tankSound (p .tank) ≡ true ⌝ }
     ensures { λ r. ⌜ r ≡ atRateTimeToFull p ⌝ }
 {
     if p.host.CapacityMode {
-        return 65535;
+        return Given::NoTime;
     }
     let flows = words::rises(p.host.AtRate);
     let left = missing_capacity(p);
     let rate = words::size(p.host.AtRate);
-    minutes_if(flows, left, rate)
+    Given::Until(minutes::by_rate(flows, left, rate))
 }
 
 // The present discharge in mA.
@@ -101,19 +93,19 @@ fn rate_of(p: Pack, current: u16) -> u32
     size
 }
 
-// Minutes until empty at a current.
-fn time_to_empty_at(p: Pack, current: u16) -> u16
+// The time until empty at a current.
+fn time_to_empty_at(p: Pack, current: u16) -> Time
     requires { ⌜ tankSound (p .tank) ≡ true ⌝ }
     ensures { λ r. ⌜ r ≡ timeToEmptyAt p current ⌝ }
 {
     let flows = words::falls(current);
     let remaining = registers::remaining_capacity(p);
     let rate = rate_of(p, current);
-    minutes_if(flows, remaining, rate)
+    minutes::by_rate(flows, remaining, rate)
 }
 
 // 11 RunTimeToEmpty.
-pub fn run_time_to_empty(p: Pack) -> u16
+pub fn run_time_to_empty(p: Pack) -> Time
     requires { ⌜ tankSound (p .tank) ≡ true ⌝ }
     ensures { λ r. ⌜ r ≡ runTimeToEmpty p ⌝ }
 {
@@ -121,7 +113,7 @@ pub fn run_time_to_empty(p: Pack) -> u16
 }
 
 // 12 AverageTimeToEmpty.
-pub fn average_time_to_empty(p: Pack) -> u16
+pub fn average_time_to_empty(p: Pack) -> Time
     requires { ⌜ (tankSound (p .tank) ≡ true) × (recentSound (p .recent) ≡ true) ⌝ }
     ensures { λ r. ⌜ r ≡ averageTimeToEmpty p ⌝ }
 {
@@ -129,7 +121,7 @@ pub fn average_time_to_empty(p: Pack) -> u16
 }
 
 // 13 AverageTimeToFull.
-pub fn average_time_to_full(p: Pack) -> u16
+pub fn average_time_to_full(p: Pack) -> Time
     requires { ⌜ (tankSound (p .tank) ≡ true) × (recentSound (p .recent) ≡ true) ⌝ }
     ensures { λ r. ⌜ r ≡ averageTimeToFull p ⌝ }
 {
@@ -137,5 +129,5 @@ pub fn average_time_to_full(p: Pack) -> u16
     let flows = words::rises(current);
     let left = missing_capacity(p);
     let rate = rate_of(p, current);
-    minutes_if(flows, left, rate)
+    minutes::by_rate(flows, left, rate)
 }

@@ -5,7 +5,7 @@ use Rattle.gauge.proofs.show.Statement.{statement}
 use Rattle.gauge.proofs.show.Tie as tie
 
 returns : tie.Need-returns
-returns c = simp (c .word .ensures, c .before .word-answer .ensures)
+returns c = simp (c .given-word .ensures, c .before .given-answer .ensures, c .before .before .register .ensures)
 
 pub show-spec : {M : Type 1} → statement M
-show-spec = tie.close (tie.spec (search needs) (λ c κs. search needs) returns)
+show-spec = tie.close (tie.spec (λ c κs. search needs) (λ c κs. search needs) (λ c κs. search needs) returns)

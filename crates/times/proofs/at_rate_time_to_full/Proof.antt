@@ -8,7 +8,7 @@ returns : tie.Need-returns
 returns c = simp (c .if1 .taken)
 
 returns-2 : tie.Need-returns-2
-returns-2 c = simp (c .minutes-if .ensures, c .before .size .ensures .0, c .before .before .missing-capacity .ensures, c .before .before .before .rises .ensures, c .before .before .before .before .if1 .left)
+returns-2 c = simp (c .by-rate .ensures, c .before .size .ensures .0, c .before .before .missing-capacity .ensures, c .before .before .before .rises .ensures, c .before .before .before .before .if1 .left)
 
 pub at-rate-time-to-full-spec : {M : Type 1} → statement M
 at-rate-time-to-full-spec = tie.close (tie.spec returns (search needs) (λ c κs. search needs) (search needs) (search needs) returns-2)
