@@ -6,8 +6,11 @@
 
 #include <string.h>
 
+#define ROOM_MOST 200
+#include "room.h"
+
 enum { REPLY_ROOM = 34, BROADCAST_ROOM = 20, PLAIN_ROOM = 16, KEY_ROOM = 139, SHEET_ROOM = 145, SHELF_ROOM = 16 };
-enum { AREA_MOST = 2 * SNATCHBLOCK_AREA, ROOM_MOST = 200, GUARD = 24, MARK = 0xA5 };
+enum { AREA_MOST = 2 * SNATCHBLOCK_AREA };
 
 /* The answer number and what stands above it in a packed result. */
 #define PACKED(answer, rest) ((unsigned long long)(answer) | (unsigned long long)(rest) << 8)
@@ -18,27 +21,6 @@ enum { AREA_MOST = 2 * SNATCHBLOCK_AREA, ROOM_MOST = 200, GUARD = 24, MARK = 0xA
 
 static const uint8_t nowhere[1] = {0};
 #define NO_BYTES nowhere, 0
-
-/* ---- rooms with guards */
-
-static uint8_t memory[GUARD + ROOM_MOST + GUARD];
-static uint8_t *const room = memory + GUARD;
-
-static void new_room(void)
-{
-    memset(memory, MARK, sizeof memory);
-}
-
-/* Whether the room begins with these bytes and all the rest is as it was. */
-static bool room_is(const uint8_t *bytes, size_t length)
-{
-    for (size_t i = 0; i < sizeof memory; i++) {
-        bool inside = i >= GUARD && i - GUARD < length;
-        if (memory[i] != (inside ? bytes[i - GUARD] : MARK))
-            return false;
-    }
-    return true;
-}
 
 /* ---- the pack */
 

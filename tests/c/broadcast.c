@@ -6,15 +6,16 @@
 
 #include <string.h>
 
-enum { WITH_PEC_ROOM = 20, PLAIN_ROOM = 16, ROOM_MOST = 64, GUARD = 24, MARK = 0xA5 };
+#define ROOM_MOST 64
+#include "room.h"
+
+enum { WITH_PEC_ROOM = 20, PLAIN_ROOM = 16 };
 
 #define PACKED(answer, rest) ((uint32_t)(answer) | (uint32_t)(rest) << 8)
 
 /* ---- the pack */
 
 static uint8_t area[SNATCHBLOCK_AREA];
-static uint8_t memory[GUARD + ROOM_MOST + GUARD];
-static uint8_t *const room = memory + GUARD;
 static const uint8_t no_names[1] = {0};
 
 /* So many of 4,000 mAh; the charger is asked for 2,000 mA and 16,800 mV, above 318.2 K it is hot. */
@@ -40,19 +41,8 @@ static void set_up(uint16_t remaining, bool plain)
 
 static uint32_t sample_in(size_t room_length, int16_t current, uint16_t temperature, uint32_t counter)
 {
-    memset(memory, MARK, sizeof memory);
+    new_room();
     return snatchblock_sample(area, sizeof area, 14800, current, temperature, counter, room, room_length);
-}
-
-/* Whether the room begins with these bytes and all the rest is as it was. */
-static bool room_is(const uint8_t *bytes, size_t length)
-{
-    for (size_t i = 0; i < sizeof memory; i++) {
-        bool inside = i >= GUARD && i - GUARD < length;
-        if (memory[i] != (inside ? bytes[i - GUARD] : MARK))
-            return false;
-    }
-    return true;
 }
 
 /* ---- the messages */

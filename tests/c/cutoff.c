@@ -6,7 +6,10 @@
 
 #include <string.h>
 
-enum { REPLY_ROOM = 34, GUARD = 24, MARK = 0xA5 };
+enum { REPLY_ROOM = 34 };
+#define ROOM_MOST REPLY_ROOM
+#include "room.h"
+
 enum { BEYOND = 65534, NOT_MOVING = 65535, CUT_OFF = 10, OVERFLOW_CODE = 5 };
 
 /* The places in the area where a rate comes from, and the mode. */
@@ -18,8 +21,6 @@ enum { AT_RATE = SNATCHBLOCK_HOST + 6, POWER = SNATCHBLOCK_HOST + 10, VOLTAGE = 
 /* ---- the pack */
 
 static uint8_t area[SNATCHBLOCK_AREA];
-static uint8_t memory[GUARD + REPLY_ROOM + GUARD];
-static uint8_t *const room = memory + GUARD;
 
 static void put(size_t at, size_t bytes, int64_t value)
 {
@@ -41,7 +42,7 @@ static void set_up(uint16_t remaining, uint16_t full, uint16_t millivolts, bool 
 static uint32_t transact_in(size_t room_length, bool read, const uint8_t *bytes, size_t length)
 {
     static const uint8_t no_names[1] = {0};
-    memset(memory, MARK, sizeof memory);
+    new_room();
     return snatchblock_transact(area, sizeof area, no_names, 1, no_names, 1, read, bytes, length, room, room_length);
 }
 
@@ -50,30 +51,7 @@ static uint32_t transact(bool read, const uint8_t *bytes, size_t length)
     return transact_in(REPLY_ROOM, read, bytes, length);
 }
 
-/* Whether the room begins with these bytes and all the rest is as it was. */
-static bool room_is(const uint8_t *bytes, size_t length)
-{
-    for (size_t i = 0; i < sizeof memory; i++) {
-        bool inside = i >= GUARD && i - GUARD < length;
-        if (memory[i] != (inside ? bytes[i - GUARD] : MARK))
-            return false;
-    }
-    return true;
-}
-
-/* A word that is whole: answered 0. */
-static uint16_t word(uint8_t command)
-{
-    const uint8_t ask[3] = {0x16, command, 0x17};
-    CHECK(transact(true, ask, sizeof ask), PACKED(0, 3));
-    return (uint16_t)(room[0] | room[1] << 8);
-}
-
-static void write_word(uint8_t command, uint16_t value)
-{
-    const uint8_t message[4] = {0x16, command, (uint8_t)(value & 0xFF), (uint8_t)(value >> 8)};
-    CHECK(transact(false, message, sizeof message), 0);
-}
+#include "words.h"
 
 /* The check byte of a read, bit by bit. */
 static uint8_t check_byte(const uint8_t exchange[5])
@@ -456,7 +434,7 @@ static void alarm_goes(void)
     put(CURRENT, 2, -1);
     write_word(0x02, 65535);
     CHECK(transact(true, (const uint8_t[]){0x16, 0x12, 0x17}, 3), PACKED(CUT_OFF, 3));
-    memset(memory, MARK, sizeof memory);
+    new_room();
     CHECK(snatchblock_sample(area, sizeof area, 14800, -1, 2981, 0, room, SNATCHBLOCK_BROADCAST_ROOM), PACKED(0, 5));
     CHECK(room_is(alarm, 5), true);
     CHECK(word(0x16), 0x01C5);

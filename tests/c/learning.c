@@ -62,12 +62,7 @@ static uint32_t transact(bool read, const uint8_t *bytes, size_t length)
     return snatchblock_transact(area, sizeof area, no_names, 1, no_names, 1, read, bytes, length, room, sizeof room);
 }
 
-static uint16_t word(uint8_t command)
-{
-    const uint8_t ask[3] = {0x16, command, 0x17};
-    CHECK(transact(true, ask, sizeof ask), 3u << 8);
-    return (uint16_t)(room[0] | room[1] << 8);
-}
+#include "words.h"
 
 static void put(size_t at, size_t bytes, uint64_t value)
 {

@@ -48,18 +48,7 @@ static uint32_t transact(bool read, const uint8_t *bytes, size_t length)
     return snatchblock_transact(area, sizeof area, no_names, 1, no_names, 1, read, bytes, length, room, sizeof room);
 }
 
-static uint16_t word(uint8_t command)
-{
-    const uint8_t ask[3] = {0x16, command, 0x17};
-    CHECK(transact(true, ask, sizeof ask), PACKED(0, 3));
-    return (uint16_t)(room[0] | room[1] << 8);
-}
-
-static void write_word(uint8_t command, uint16_t value)
-{
-    const uint8_t message[4] = {0x16, command, (uint8_t)(value & 0xFF), (uint8_t)(value >> 8)};
-    CHECK(transact(false, message, sizeof message), 0);
-}
+#include "words.h"
 
 /* A signed word as the bus shows it. */
 static uint16_t shown(int32_t value)

@@ -12,6 +12,7 @@ use lib.ListN.{length, getD}
 use Rattle.area.specs.Area.{isArea, storable, loadedOf}
 use Rattle.bus_laws.proofs.Ten.{ten-read-only}
 use Rattle.bus.specs.Transact.{packSide, transactAnswer, transactOf}
+use Rattle.capacity.proofs.Bounds.{alike}
 use Rattle.capture.specs.Capture.{isCapture}
 use Rattle.capture.specs.Walk.{openedOf, seenBad}
 use Rattle.capture_writer.specs.Writer.{captureWrote, captureAnswer, captureGiven, givenFit, roomAsked}
@@ -212,19 +213,14 @@ asks d false false true read bytes checked = refl
 asks d false false false true bytes checked = refl
 asks d false false false false bytes checked = refl
 
--- the same whether read or not
-under-read : (read : Bool) (n : ℕ) → cond read n n ≡ n
-under-read true n = refl
-under-read false n = refl
-
 -- a row's answer is the first of 6 to 10 that holds; only a word that is read only is answered 10
 by-row : (d : Side) (command : ℕ) (k : Kind) (read good ten : Bool)
     → (ten ≡ true → k ≡ ReadOnly) → d .blockAnswer command ≡ cond good 0 9 → d .wordAnswer command ≡ cond ten 10 0
     → cond read (readAnswer d command k) (writeAnswer k)
     ≡ firstHolding ((6 when isReserved k) ∷ (7 when isOptional k) ∷ (8 when (not read && isReadOnly k)) ∷ (9 when (read && (isBlock k && not good))) ∷ (10 when (read && ten)) ∷ [])
 unfolding firstHolding
-by-row d command Reserved read good ten only block word = under-read read 6
-by-row d command Optional read good ten only block word = under-read read 7
+by-row d command Reserved read good ten only block word = alike read 6
+by-row d command Optional read good ten only block word = alike read 7
 by-row d command Block true good true only block word = absurd (let z : _≡_ {A = Bool} true false = ap isBlock (only refl) in let y : _≡_ {A = ℕ} 0 1 = cc in omega arith)
 by-row d command Block true true false only block word = block
 by-row d command Block true false false only block word = block

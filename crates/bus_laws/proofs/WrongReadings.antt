@@ -1,7 +1,7 @@
 -- Wrong readings of the page, shut out: 11 to 13 are no charger commands at 0x16, and 0x12 is another's address.
 -- Assumes nothing.
 use Prim.Native.Nat.{ℕ, _≤_}
-use mathlib.Core.Bool.{Bool, true, false, cond}
+use mathlib.Core.Bool.{true, cond}
 use mathlib.Core.List.{_∷_}
 use mathlib.Core.Logic.{inl}
 use mathlib.Core.Path.{_≡_, refl, ap, _∙_}
@@ -14,6 +14,7 @@ use Rattle.bus_laws.proofs.Exchanges.{served-reply}
 use Rattle.bus_laws.proofs.Served.{read-answer, write-answer}
 use Rattle.bus_laws.specs.Calls.{Call, answer, reply, Reads, ReadsOnly}
 use Rattle.bus_laws.specs.Promises.{NoChargerCommands, OtherAddresses}
+use Rattle.capacity.proofs.Bounds.{either}
 use Rattle.commands.specs.Answers.{readAnswer, writeAnswer, served, readBody}
 use Rattle.commands.specs.Commands.{kindOf}
 use Rattle.commands.specs.declared.Kind.{Kind}
@@ -28,10 +29,6 @@ use Rattle.minutes.specs.declared.Time.{Time}
 use Rattle.pack.specs.Sound.{soundOf}
 use Rattle.pack.specs.declared.State.{State}
 
-either-served : (b : Bool) → served (cond b 10 0) ≡ true
-either-served true = refl
-either-served false = refl
-
 -- a read-only row that gives a time
 reads-only : (s : State) (c : Call) (command : ℕ) (t : Time) → soundOf s ≡ true → 34 ≤ c .room
     → kindOf command ≡ ReadOnly → givenOf s command ≡ Until t → ReadsOnly s c command t
@@ -42,7 +39,7 @@ reads-only s c command t sound room k g = (λ r. (by-time r, shown r), λ writte
 
     shown : Reads c command → reply s c ≡ replyOf (c .bytes) (wordBody (timeWord t))
     shown r =
-        served-reply s c command r (ap (λ (n : ℕ). served n) (by-time r) ∙ either-served (wasCutOff t))
+        served-reply s c command r (ap (λ (n : ℕ). served n) (by-time r) ∙ either (λ (n : ℕ). served n ≡ true) (wasCutOff t) 10 0 refl refl)
         ∙ ap (λ (q : Kind). replyOf (c .bytes) (readBody (packSide s (c .service) (c .factory)) command q)) k
         ∙ ap (λ x. replyOf (c .bytes) (wordBody (givenWord x))) g
 

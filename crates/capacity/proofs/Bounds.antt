@@ -1,7 +1,8 @@
--- Bounds of the rules of capacity: words stay words, and charge up to full never shows above full.
+-- The one chosen of two, and bounds of the rules of capacity: charge up to full never shows above full.
 -- Assumes nothing.
 use Prim.Native.Nat.{ℕ, _/_, _≤_}
 use mathlib.Core.Bool.{Bool, true, false, cond}
+use mathlib.Core.Path.{_≡_, refl}
 use native.Mathlib.Omega.{arith}
 use native.Mathlib.Nat.{mul-le-mul-right}
 use Rattle.capacity.specs.Capacity.{powerOf, energyOf, milliampMs}
@@ -10,6 +11,15 @@ use Rattle.capacity.specs.Capacity.{powerOf, energyOf, milliampMs}
 pub either : {A : Type 0} (P : A → Type 0) (b : Bool) (x y : A) → P x → P y → P (cond b x y)
 either P true x y f g = f
 either P false x y f g = g
+
+-- two that are one are it, whichever is chosen
+pub alike : {A : Type 0} (b : Bool) (x : A) → cond b x x ≡ x
+alike b x = either (λ y. y ≡ x) b x x refl refl
+
+-- what a function gives of the one chosen is the one chosen of what it gives
+pub chosen : {A B : Type 0} (f : A → B) (b : Bool) (x y : A) → f (cond b x y) ≡ cond b (f x) (f y)
+chosen f true x y = refl
+chosen f false x y = refl
 
 pub at-most : (b : Bool) (x y most : ℕ) → x ≤ most → y ≤ most → cond b x y ≤ most
 at-most b x y most = either (λ n. n ≤ most) b x y

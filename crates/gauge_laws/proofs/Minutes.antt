@@ -6,14 +6,13 @@ use mathlib.Core.Path.{_≡_, refl, ap, _∙_, sym, subst}
 use borrow.Author.Tests.{ltb-true, ltb-false, eqb-true}
 use native.Mathlib.Omega.{arith}
 use lib.Dec.{eqb, ltb}
-use Rattle.capacity.proofs.Bounds.{either}
+use Rattle.capacity.proofs.Bounds.{either, alike, chosen}
 use Rattle.gauge.specs.Word.{givenOf, wordAnswer}
 use Rattle.gauge_laws.specs.Before.{minutesIf, wordBefore}
 use Rattle.gauge_laws.specs.Minutes.{isTen, ofTimes, TenExactly, WordsOfBefore, TimeBitOfBefore, GivenTold}
 use Rattle.minutes.proofs.Laws.{cut-off-exactly, division-timed, times-told}
 use Rattle.minutes.specs.Laws.{Timed}
 use Rattle.minutes.specs.Minutes.{timeOf, timeWord, givenWord, givenAnswer}
-use Rattle.minutes.specs.declared.Given.{Given}
 use Rattle.minutes.specs.declared.Given.the-variants.{Until}
 use Rattle.minutes.specs.declared.Time.the-variants.{Minutes, Beyond}
 use Rattle.pack.specs.declared.Pack.{Pack}
@@ -35,25 +34,12 @@ word-of-before true capacity rate = go (eqb rate 0) (ltb 65534 q) refl
     go false true e = omega (arith, ltb-true 65534 q e)
     go false false e = omega (arith, ltb-false 65534 q e)
 
--- the word of the one chosen is the one chosen of the words, and so its answer
-word-chosen : (b : Bool) (x y : Given) → givenWord (cond b x y) ≡ cond b (givenWord x) (givenWord y)
-word-chosen true x y = refl
-word-chosen false x y = refl
-
 pub time-bit-of-before : TimeBitOfBefore
 time-bit-of-before p = simp word-of-before
 
 pub words-of-before : WordsOfBefore
 unfolding givenOf wordBefore
-words-of-before s command = simp (word-chosen, word-of-before)
-
-answer-chosen : (b : Bool) (x y : Given) → givenAnswer (cond b x y) ≡ cond b (givenAnswer x) (givenAnswer y)
-answer-chosen true x y = refl
-answer-chosen false x y = refl
-
-neither : (b : Bool) → _≡_ {A = ℕ} (cond b 0 0) 0
-neither true = refl
-neither false = refl
+words-of-before s command = simp (chosen givenWord, word-of-before)
 
 either-ten : (b c : Bool) → _≡_ {A = ℕ} (cond b 10 (cond c 10 0)) (cond (b || c) 10 0)
 either-ten true c = refl
@@ -70,12 +56,12 @@ at P command key here else = go (eqb command key) refl
 pub ten-exactly : TenExactly
 unfolding givenOf
 ten-exactly s command =
-    at P command 0x05 (simp (answer-chosen, cut-off-exactly, either-ten, or-false))
+    at P command 0x05 (simp (chosen givenAnswer, cut-off-exactly, either-ten, or-false))
     (λ a. at P command 0x06 (simp (cut-off-exactly, or-false))
     (λ b. at P command 0x11 (simp (cut-off-exactly, or-false))
     (λ c. at P command 0x12 (simp (cut-off-exactly, or-false))
     (λ d. at P command 0x13 (simp cut-off-exactly)
-    (λ e. simp (a, b, c, d, e, answer-chosen, neither))))))
+    (λ e. simp (a, b, c, d, e, chosen givenAnswer, alike))))))
   where
     P : ℕ → Type 0
     P n = givenAnswer (givenOf s n) ≡ cond (isTen (s .pack) n) 10 0
