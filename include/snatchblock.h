@@ -3,7 +3,8 @@
  *
  * A firmware lends an area of SNATCHBLOCK_AREA bytes. It sets the area up once (snatchblock_set_up_from), brings a
  * sample each second (snatchblock_sample_from) and hands over what the bus driver heard (snatchblock_transact).
- * examples/firmware/pack.c does so and can be copied. All else here is for tools: keys, sheets, captures, the shelf.
+ * examples/firmware/pack.c does so and can be copied. A charger's firmware does the same with an area of
+ * SNATCHBLOCK_CHARGER_AREA bytes. All else here is for tools: keys, sheets, captures, the shelf.
  *
  * To link: libsnatchblock.a alone (`rt staticlib snatchblock`; x86-64 Linux today). It calls the C library's memcpy and
  * nothing else. It has no heap, no variables and no start: all that it knows lies in what a call lends.
@@ -44,13 +45,15 @@ extern "C" {
 enum snatchblock_answer {
     SNATCHBLOCK_SERVED = 0,
     SNATCHBLOCK_NOT_SOUND = 1,         /* no area, or its state isn't sound */
-    SNATCHBLOCK_SMALL_ROOM = 2,        /* a room for a reply under 34 bytes, broadcasts 20 (plain: 16), the shelf 16 */
-    SNATCHBLOCK_OTHER_ADDRESS = 3,     /* no bytes, or the first isn't 16 */
+    SNATCHBLOCK_SMALL_ROOM = 2,        /* a room for a reply under 34 bytes, of the charger 3, broadcasts 20 (plain: 16),
+                                          the shelf 16 */
+    SNATCHBLOCK_OTHER_ADDRESS = 3,     /* no bytes, or the first isn't 16, for the charger 12 */
     SNATCHBLOCK_WRONG_FORM = 4,        /* wrong size or form (6, BadSize); a shelf's table that isn't whole rows */
     SNATCHBLOCK_WRONG_PEC = 5,         /* a write of five bytes, its PEC wrong (7, UnknownError) */
     SNATCHBLOCK_RESERVED_COMMAND = 6,  /* (2, ReservedCommand) */
     SNATCHBLOCK_COMMAND_NOT_BUILT = 7, /* an optional command that this pack hasn't (3, UnsupportedCommand) */
-    SNATCHBLOCK_READ_ONLY = 8,         /* a write to what is only read (4, AccessDenied) */
+    SNATCHBLOCK_READ_ONLY = 8,         /* a write to what is only read (4, AccessDenied); of the charger also a read of
+                                          what is only written */
     SNATCHBLOCK_BAD_SHEET = 9,         /* a block read, and one of the two sheets is none (7) */
     SNATCHBLOCK_SERVED_CUT_OFF = 10,   /* minutes beyond the range (65,534, FE FF), or AtRateTimeToFull in power mode
                                           (FF FF): word and PEC are sent (5, Overflow/Underflow) */
@@ -68,10 +71,12 @@ enum snatchblock_answer {
  * of a room, and of the area only what snatchblock_transact says.
  *
  *   result of                         bits: what stands there
- *   all these, and set_up             0-7: the answer
+ *   all these, set_up, charger_set_up
+ *     and charger_sample              0-7: the answer
  *   sample, transact, write_key,
  *     unescape, write_sheet,
- *     shelf_report                    8-31: the bytes written to the front of the room; the rest of it stays
+ *     shelf_report, charger_transact  8-31: the bytes written to the front of the room; the rest of it stays
+ *   charger_current                   8-23: the current in mA
  *   exchange_check                    8: right
  *   bit_comparison                    8-31: bits that differ
  *   read_key                          8-15: maker's length   16-23: device's length   24-39: date   40-55: serial
@@ -312,6 +317,99 @@ static inline size_t snatchblock_message_length(const uint8_t area[SNATCHBLOCK_A
 uint32_t snatchblock_transact(uint8_t *area, size_t area_length, const uint8_t *service, size_t service_length,
                               const uint8_t *factory, size_t factory_length, bool read, const uint8_t *bytes,
                               size_t bytes_length, uint8_t *room, size_t room_length);
+
+/* ---- the charger */
+
+/*
+ * A Level 2 charger at address 12 (Smart Battery Charger Specification 1.1): it takes the pack's broadcasts and gives the
+ * current that they ask for. Its area has SNATCHBLOCK_CHARGER_AREA bytes; of other bytes every call here answers 1.
+ *
+ *   at  bytes
+ *    0      2  ChargingCurrent, the word last written, mA
+ *    2  2 x 1  flags: one was taken; it must come again, after an alarm
+ *    4      2  ChargingVoltage, mV
+ *    6  2 x 1  flags, as above
+ *    8      1  flag: INHIBIT_CHARGE as last written
+ *    9      4  the count: ms since a request, 0 to 175,000; above that the state isn't sound
+ *   13     10  the latest sample, as LATEST has it in the pack's area
+ *
+ * Its current is the last ChargingCurrent taken. It is 0 before any; while inhibited; after an alarm, until both
+ * requests were written again; with a ChargingVoltage of 0 or none yet; and once samples counted 175 s with neither
+ * request: the count stops there, and a new request starts it again.
+ *
+ * Joined to a pack on one clock, samples at most 1 s apart and every broadcast delivered, nobody else writing to the
+ * charger: where the pack reports TERMINATE_CHARGE with CHARGER_MODE clear, and both last, the current is 0 within 31 s
+ * (a theorem; 30,999 ms do occur). With no alarm it is the pack's ChargingCurrent again within 31 s.
+ *
+ * What an integrator must know: charger and pack do what their rules say, and these leave two gaps.
+ * - A hot pack at rest sends AlarmWarning with OVER_TEMP, and every 30 s in the same broadcast its charger words, whose
+ *   ChargingCurrent isn't 0 then: they come behind the alarm and undo it at once.
+ * - TERMINATE_CHARGE needs a current above 0. A charger that stops clears it, and the next charger words start a hot
+ *   pack again.
+ * So a hot pack can be charged in turns. The way out is a host that reads OVER_TEMP (bit 12 of BatteryStatus) and writes
+ * ChargerMode 0001 (INHIBIT_CHARGE) while it lasts, 0000 afterwards.
+ */
+#define SNATCHBLOCK_CHARGER_AREA 23
+#define SNATCHBLOCK_CHARGER_REPLY_ROOM 3
+
+/*
+ * The power-on state with the first sample: no request taken, nothing inhibited, the count at 0. Answers 0; 1: the area
+ * isn't SNATCHBLOCK_CHARGER_AREA bytes, and stays as it was.
+ */
+uint32_t snatchblock_charger_set_up(uint8_t *area, size_t area_length, uint16_t voltage, int16_t current,
+                                    uint16_t temperature, uint32_t counter);
+
+static inline uint32_t snatchblock_charger_set_up_from(uint8_t *area, size_t area_length,
+                                                       const struct snatchblock_reading *first)
+{
+    return snatchblock_charger_set_up(area, area_length, first->voltage, first->current, first->temperature,
+                                      first->counter);
+}
+
+/* Whether bytes are a charger's area and its state is sound. */
+bool snatchblock_charger_sound(const uint8_t *area, size_t area_length);
+
+/*
+ * A sample, each second: what the charger measures at the pack, and the counter. Elapsed, wrapping as the pack's, goes on
+ * the count. Answers 0; 1, and the area stays as it was.
+ */
+uint32_t snatchblock_charger_sample(uint8_t *area, size_t area_length, uint16_t voltage, int16_t current,
+                                    uint16_t temperature, uint32_t counter);
+
+static inline uint32_t snatchblock_charger_sample_from(uint8_t *area, size_t area_length,
+                                                       const struct snatchblock_reading *reading)
+{
+    return snatchblock_charger_sample(area, area_length, reading->voltage, reading->current, reading->temperature,
+                                      reading->counter);
+}
+
+/*
+ * What the driver heard at address 12, and its mark, as with snatchblock_transact: a read is 12 command 13, a write
+ * 12 command low high, with or without PEC. Broadcasts come so too. A host reads
+ *
+ *   11 ChargerSpecInfo  0003: version 1.1 with PEC
+ *   13 ChargerStatus    bit 0 CHARGE_INHIBITED, 2 VOLTAGE_NOTREG, 3 CURRENT_NOTREG (the latest sample is below the
+ *                       request), 4 Level 2, 12 ALARM_INHIBITED, 14 BATTERY_PRESENT, 15 AC_PRESENT; the others are 0
+ *
+ * and writes
+ *
+ *   12 ChargerMode      bit 0 INHIBIT_CHARGE; 2 POR_RESET: as after set-up, but for the count, which goes on, whatever
+ *                       the other bits; 3 RESET_TO_ZERO: both requests 0; no other bit has an effect
+ *   14 ChargingCurrent  mA; sets the count to 0
+ *   15 ChargingVoltage  mV; sets the count to 0
+ *   16 AlarmWarning     with bit 15, 14, 13 or 12: no current until 14 and 15 were both written again, or a POR_RESET
+ *
+ * Answers 0; 1; 2: a room under 3 bytes; 3 to 5; 6: any other command; 8: a read of 12, 14, 15 or 16, a write to 11 or
+ * 13. It has no error code. Only a served write changes the area, and stores all of it. On 0 acknowledge; for a read
+ * send the room's first length_of bytes.
+ */
+uint32_t snatchblock_charger_transact(uint8_t *area, size_t area_length, bool read, const uint8_t *bytes,
+                                      size_t bytes_length, uint8_t *room, size_t room_length);
+
+/* The current that the charger gives now: charger_current_of. Answers 0; 1: no area, or not sound: give none. */
+uint32_t snatchblock_charger_current(const uint8_t *area, size_t area_length);
+
+static inline uint16_t snatchblock_charger_current_of(uint32_t result) { return (uint16_t)(result >> 8 & 0xFFFFu); }
 
 /* ---- messages */
 

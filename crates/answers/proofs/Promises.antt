@@ -22,7 +22,7 @@ use Rattle.clock.specs.Broadcast.{sampleOf}
 use Rattle.commands.specs.Answers.{Side, sideAnswer, requestAnswer, readAnswer, writeAnswer}
 use Rattle.commands.specs.Commands.{kindOf}
 use Rattle.commands.specs.declared.Kind.{Kind}
-use Rattle.commands.specs.declared.Kind.the-variants.{ReadWrite, ReadOnly, Block, Optional, Reserved}
+use Rattle.commands.specs.declared.Kind.the-variants.{ReadWrite, ReadOnly, WriteOnly, Block, Optional, Reserved}
 use Rattle.gauge_laws.proofs.Minutes.{ten-exactly}
 use Rattle.gauge_laws.specs.Minutes.{isTen}
 use Rattle.frame.specs.Transactions.{requestOf, foreign, misshapen, miscoded, writeOf}
@@ -44,7 +44,7 @@ use Rattle.sheet.specs.declared.Located.{Located}
 use Rattle.sheet_writer.specs.Writing.{sheetWrote, writable, short}
 use Rattle.shelf.specs.Shelf.{anyBad}
 use Rattle.shelf.proofs.Steps.{report-answer}
-use Rattle.answers.specs.Conditions.{commandOf, isReserved, isOptional, isReadOnly, isBlock, transactConditions, isNone, overflows, tableConditions}
+use Rattle.answers.specs.Conditions.{commandOf, isReserved, isOptional, isDenied, isBlock, transactConditions, isNone, overflows, tableConditions}
 use Rattle.answers.specs.Lowest.{_when_, lowest, allAbove, rising, firstHolding}
 use Rattle.answers.specs.Promises.{TransactLowest, SetUpLowest, SampleLowest, LoadLowest, StoreLowest, WriteKeyLowest, ReadKeyLowest, FindLowest, UnescapeLowest, BlockLowest, LocateLowest, WriteSheetLowest, OpenLowest, StepLowest, WriteCaptureLowest, ExchangeLowest, ComparisonLowest, ReportLowest, TableReportLowest}
 use Rattle.answers.proofs.Lowest.{first-is-lowest}
@@ -217,13 +217,15 @@ asks d false false false false bytes checked = refl
 by-row : (d : Side) (command : ℕ) (k : Kind) (read good ten : Bool)
     → (ten ≡ true → k ≡ ReadOnly) → d .blockAnswer command ≡ cond good 0 9 → d .wordAnswer command ≡ cond ten 10 0
     → cond read (readAnswer d command k) (writeAnswer k)
-    ≡ firstHolding ((6 when isReserved k) ∷ (7 when isOptional k) ∷ (8 when (not read && isReadOnly k)) ∷ (9 when (read && (isBlock k && not good))) ∷ (10 when (read && ten)) ∷ [])
+    ≡ firstHolding ((6 when isReserved k) ∷ (7 when isOptional k) ∷ (8 when isDenied read k) ∷ (9 when (read && (isBlock k && not good))) ∷ (10 when (read && ten)) ∷ [])
 unfolding firstHolding
 by-row d command Reserved read good ten only block word = alike read 6
 by-row d command Optional read good ten only block word = alike read 7
 by-row d command Block true good true only block word = absurd (let z : _≡_ {A = Bool} true false = ap isBlock (only refl) in let y : _≡_ {A = ℕ} 0 1 = cc in omega arith)
 by-row d command Block true true false only block word = block
 by-row d command Block true false false only block word = block
+by-row d command WriteOnly true good ten only block word = refl
+by-row d command WriteOnly false good ten only block word = refl
 by-row d command ReadOnly true good ten only block word = word
 by-row d command ReadWrite true good ten only block word = word
 by-row d command Block false good ten only block word = refl

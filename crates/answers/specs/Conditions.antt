@@ -12,7 +12,7 @@ use Rattle.capture.specs.Walk.{seenBad}
 use Rattle.capture_writer.specs.Writer.{givenFit, roomAsked}
 use Rattle.commands.specs.Commands.{kindOf}
 use Rattle.commands.specs.declared.Kind.{Kind}
-use Rattle.commands.specs.declared.Kind.the-variants.{ReadWrite, ReadOnly, Block, Optional, Reserved}
+use Rattle.commands.specs.declared.Kind.the-variants.{ReadWrite, ReadOnly, WriteOnly, Block, Optional, Reserved}
 use Rattle.frame.specs.Transactions.{foreign, misshapen, miscoded}
 use Rattle.gauge_laws.specs.Minutes.{isTen}
 use Rattle.names.specs.Names.{nameIn}
@@ -40,6 +40,7 @@ isReserved Reserved = true
 isReserved Optional = false
 isReserved Block = false
 isReserved ReadOnly = false
+isReserved WriteOnly = false
 isReserved ReadWrite = false
 
 -- optional, not built
@@ -48,6 +49,7 @@ isOptional Reserved = false
 isOptional Optional = true
 isOptional Block = false
 isOptional ReadOnly = false
+isOptional WriteOnly = false
 isOptional ReadWrite = false
 
 -- read only, a block among them
@@ -56,7 +58,21 @@ isReadOnly Reserved = false
 isReadOnly Optional = false
 isReadOnly Block = true
 isReadOnly ReadOnly = true
+isReadOnly WriteOnly = false
 isReadOnly ReadWrite = false
+
+-- write only, as some of a charger's commands are
+abbrev pub isWriteOnly : Kind → Bool
+isWriteOnly Reserved = false
+isWriteOnly Optional = false
+isWriteOnly Block = false
+isWriteOnly ReadOnly = false
+isWriteOnly WriteOnly = true
+isWriteOnly ReadWrite = false
+
+-- 8, by the driver's mark: a read of a write-only command, or a write to a read-only one (RULES 1.8)
+abbrev pub isDenied : Bool → Kind → Bool
+isDenied read k = cond read (isWriteOnly k) (isReadOnly k)
 
 -- a block
 abbrev pub isBlock : Kind → Bool
@@ -64,6 +80,7 @@ isBlock Reserved = false
 isBlock Optional = false
 isBlock Block = true
 isBlock ReadOnly = false
+isBlock WriteOnly = false
 isBlock ReadWrite = false
 
 -- 1: state isn't sound; 2: lent reply room under 34 bytes; 3: empty, or first byte isn't 0x16; 4: wrong size or form; 5: five-byte write, PEC wrong;
@@ -77,7 +94,7 @@ transactConditions s service factory read bytes room =
     ∷ (5 when miscoded read bytes)
     ∷ (6 when isReserved (kindOf (commandOf bytes)))
     ∷ (7 when isOptional (kindOf (commandOf bytes)))
-    ∷ (8 when (not read && isReadOnly (kindOf (commandOf bytes))))
+    ∷ (8 when isDenied read (kindOf (commandOf bytes)))
     ∷ (9 when (read && (isBlock (kindOf (commandOf bytes)) && not (goodSheets service factory))))
     ∷ (10 when (read && isTen (s .pack) (commandOf bytes)))
     ∷ []

@@ -97,6 +97,7 @@ fn serve_read<'a>(
     match commands::row(command) {
         Kind::Reserved => unchanged(s, 6, 0),
         Kind::Optional => unchanged(s, 7, 0),
+        Kind::WriteOnly => unchanged(s, 8, 0),
         Kind::Block => serve_block(s, service, factory, command, bytes, room),
         Kind::ReadOnly => serve_word(s, command, bytes, room),
         Kind::ReadWrite => serve_word(s, command, bytes, room),
@@ -107,16 +108,12 @@ fn serve_read<'a>(
 fn serve_write(s: State, command: u8, word: u16) -> Transacted
     ensures { λ r. ⌜ r ≡ outcome s (writeAnswer (kindOf command)) (cond (served (writeAnswer (kindOf command))) (packWritten (s .pack) command word) (s .pack)) 0 ⌝ }
 {
-    match commands::row(command) {
-        Kind::Reserved => unchanged(s, 6, 0),
-        Kind::Optional => unchanged(s, 7, 0),
-        Kind::Block => unchanged(s, 8, 0),
-        Kind::ReadOnly => unchanged(s, 8, 0),
-        Kind::ReadWrite => {
-            let pack = written::pack_written(s.pack, command, word);
-            answered(s, 0, pack, 0)
-        }
+    let refusal = commands::write_answer(commands::row(command));
+    if refusal != 0 {
+        return unchanged(s, refusal, 0);
     }
+    let pack = written::pack_written(s.pack, command, word);
+    answered(s, 0, pack, 0)
 }
 
 // What the driver's bytes and mark are answered; no sheet is looked at unless a block is read.

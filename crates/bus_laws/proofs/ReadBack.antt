@@ -31,37 +31,26 @@ use Rattle.written.specs.Written.{bitSet, hostWritten, packWritten}
 
 -- ---- a served write is one to 00 to 04
 
-writable : (k : Kind) → served (writeAnswer k) ≡ true → k ≡ ReadWrite
-writable ReadWrite v = refl
-writable ReadOnly v = absurd (true≢false (sym v))
-writable Block v = absurd (true≢false (sym v))
-writable Optional v = absurd (true≢false (sym v))
-writable Reserved v = absurd (true≢false (sym v))
-
--- another row than that of 00 to 04
-abbrev other : Kind → Bool
-other ReadWrite = false
-other ReadOnly = true
-other Block = true
-other Optional = true
-other Reserved = true
-
-others : (a b d : Bool) → other (cond a ReadOnly (cond b Block (cond d Optional Reserved))) ≡ true
+others : (a b d : Bool) → served (writeAnswer (cond a ReadOnly (cond b Block (cond d Optional Reserved)))) ≡ false
 others true b d = refl
 others false true d = refl
 others false false true = refl
 others false false false = refl
 
-past-five : (command : ℕ) → leb command 4 ≡ false → other (kindOf command) ≡ true
+past-five : (command : ℕ) → leb command 4 ≡ false → served (writeAnswer (kindOf command)) ≡ false
 unfolding kindOf
 past-five command e = simp (e, le-leb 0 command (omega arith)) (others (from 0x05 0x1C command) (from 0x20 0x23 command) (eqb command 0x2F || from 0x3C 0x3F command))
 
-first-five : (command : ℕ) → kindOf command ≡ ReadWrite → command ≤ 4
-first-five command k = go (leb command 4) refl
+first-five : (command : ℕ) → served (writeAnswer (kindOf command)) ≡ true → command ≤ 4
+first-five command v = go (leb command 4) refl
   where
     go : (b : Bool) → leb command 4 ≡ b → command ≤ 4
     go true e = leb-true _ _ e
-    go false e = absurd (true≢false (sym (past-five command e) ∙ ap (λ (q : Kind). other q) k))
+    go false e = absurd (true≢false (sym v ∙ past-five command e))
+
+five-rows : (command : ℕ) → command ≤ 4 → kindOf command ≡ ReadWrite
+unfolding kindOf
+five-rows command l = simp (le-leb 0 command (omega arith), le-leb command 4 l)
 
 -- a read of these is answered 0
 answered : (s : State) (command : ℕ) → command ≤ 4 → wordAnswer s command ≡ 0
@@ -109,11 +98,11 @@ written-read s w t r command word writes taken sound pack-left reads room =
     served-row : served (writeAnswer (kindOf command)) ≡ true
     served-row = ap (λ (n : ℕ). served n) (sym (write-answer s w command word (two .0) (two .1) writes)) ∙ taken
 
-    row : kindOf command ≡ ReadWrite
-    row = writable (kindOf command) served-row
-
     five : command ≤ 4
-    five = first-five command row
+    five = first-five command served-row
+
+    row : kindOf command ≡ ReadWrite
+    row = five-rows command five
 
     given : served (answer t r) ≡ true
     given =

@@ -11,7 +11,7 @@ use Rattle.bus_laws.specs.Promises.{TenAnswered}
 use Rattle.commands.specs.Answers.{Side, readAnswer}
 use Rattle.commands.specs.Commands.{kindOf}
 use Rattle.commands.specs.declared.Kind.{Kind}
-use Rattle.commands.specs.declared.Kind.the-variants.{ReadWrite, ReadOnly, Block, Optional, Reserved}
+use Rattle.commands.specs.declared.Kind.the-variants.{ReadWrite, ReadOnly, WriteOnly, Block, Optional, Reserved}
 use Rattle.gauge_laws.proofs.Minutes.{ten-exactly, of-five}
 use Rattle.gauge_laws.specs.Minutes.{isTen}
 use Rattle.pack.specs.declared.Pack.{Pack}
@@ -46,6 +46,7 @@ ten-answered s c command sound room r = (λ h. by-kind (kindOf command) (sym row
     by-kind : (k : Kind) → readAnswer side command k ≡ 10 → isTen (s .pack) command ≡ true
     by-kind Reserved h = absurd (omega (arith, h))
     by-kind Optional h = absurd (omega (arith, h))
+    by-kind WriteOnly h = absurd (omega (arith, h))
     by-kind Block h = absurd (no-nine (goodSheets (c .service) (c .factory)) h)
     by-kind ReadOnly h = no-zero (isTen (s .pack) command) (sym word ∙ h)
     by-kind ReadWrite h = no-zero (isTen (s .pack) command) (sym word ∙ h)

@@ -15,7 +15,7 @@ use Rattle.bus.specs.Transact as bus
 use Rattle.commands.specs.Answers.{served, readBody, sideReply}
 use Rattle.commands.specs.Commands.{kindOf}
 use Rattle.commands.specs.declared.Kind.{Kind}
-use Rattle.commands.specs.declared.Kind.the-variants.{ReadWrite, ReadOnly, Block, Optional, Reserved}
+use Rattle.commands.specs.declared.Kind.the-variants.{ReadWrite, ReadOnly, WriteOnly, Block, Optional, Reserved}
 use Rattle.bus.specs.declared.Transacted.{Transacted}
 use Rattle.broadcasts.proofs.Sending.{at-most-20}
 use Rattle.clock.proofs.Outcome.{outcome}
@@ -124,6 +124,7 @@ body-most : (s : State) (service factory : List ℕ) (k : Kind) (command : ℕ) 
 body-most s service factory ReadWrite command = omega arith
 body-most s service factory ReadOnly command = omega arith
 body-most s service factory Block command = omega (arith, block-short service factory command)
+body-most s service factory WriteOnly command = omega arith
 body-most s service factory Optional command = omega arith
 body-most s service factory Reserved command = omega arith
 

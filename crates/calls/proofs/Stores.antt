@@ -17,7 +17,7 @@ use Rattle.bus.specs.Transact.{packSide, packAfter, asked, transactAnswer, tran
 use Rattle.bus.specs.declared.Transacted.{Transacted}
 use Rattle.commands.specs.Answers.{Side, served, codeAfter, writeAnswer, sideAnswer}
 use Rattle.commands.specs.declared.Kind.{Kind}
-use Rattle.commands.specs.declared.Kind.the-variants.{ReadWrite, ReadOnly, Block, Optional, Reserved}
+use Rattle.commands.specs.declared.Kind.the-variants.{ReadWrite, ReadOnly, WriteOnly, Block, Optional, Reserved}
 use Rattle.frame.specs.Transactions.{requestOf, foreign, misshapen}
 use Rattle.frame.specs.declared.Request.{Request}
 use Rattle.frame.specs.declared.Request.the-variants.{Refused, Read, Write}
@@ -126,6 +126,7 @@ write-served Reserved e = refl
 write-served Optional e = refl
 write-served Block e = refl
 write-served ReadOnly e = refl
+write-served WriteOnly e = absurd (true≢false e)
 write-served ReadWrite e = absurd (true≢false e)
 
 write-refused : (d : Side) (command word : ℕ) (checked : Bool) (room : ℕ) → (eqb (sideAnswer d (Write command word checked) room) 0 && true) ≡ false

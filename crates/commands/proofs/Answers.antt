@@ -5,7 +5,9 @@ use mathlib.Core.Bool.{Bool, true, false, cond}
 use mathlib.Core.List.{List, []}
 use mathlib.Core.Path.{_≡_, refl, ap}
 use borrow.Author.Tests.{lt-ltb, le-ltb}
-use Rattle.commands.specs.Answers.{Side, requestAnswer, sideAnswer, served, sideReply}
+use Rattle.commands.specs.Answers.{Side, writeAnswer, requestAnswer, sideAnswer, served, sideReply}
+use Rattle.commands.specs.declared.Kind.{Kind}
+use Rattle.commands.specs.declared.Kind.the-variants.{ReadWrite, ReadOnly, WriteOnly, Block, Optional, Reserved}
 use Rattle.frame.specs.declared.Request.{Request}
 use Rattle.frame.specs.declared.Request.the-variants.{Refused, Read, Write}
 
@@ -27,3 +29,12 @@ pub refused-reply : (d : Side) (bytes : List ℕ) (request : Request) (answer : 
 refused-reply d bytes (Refused n) answer e = refl
 refused-reply d bytes (Read command) answer e = ap (λ (b : Bool). cond b (sideReply d bytes (Read command) 0) []) e
 refused-reply d bytes (Write command word checked) answer e = refl
+
+-- a write that isn't answered 0 isn't served
+pub write-refused : (kind : Kind) → (writeAnswer kind ≡ 0 → ⊥) → served (writeAnswer kind) ≡ false
+write-refused Reserved h = refl
+write-refused Optional h = refl
+write-refused Block h = refl
+write-refused ReadOnly h = refl
+write-refused WriteOnly h = absurd (h refl)
+write-refused ReadWrite h = absurd (h refl)

@@ -5,7 +5,7 @@ use mathlib.Core.Bool.{Bool, cond, not, _||_}
 use mathlib.Core.List.{List, []}
 use lib.Dec.{ltb, eqb}
 use Rattle.commands.specs.declared.Kind.{Kind}
-use Rattle.commands.specs.declared.Kind.the-variants.{ReadWrite, ReadOnly, Block, Optional, Reserved}
+use Rattle.commands.specs.declared.Kind.the-variants.{ReadWrite, ReadOnly, WriteOnly, Block, Optional, Reserved}
 use Rattle.frame.specs.Transactions.{replyOf, wordBody, blockBody}
 use Rattle.frame.specs.declared.Request.{Request}
 use Rattle.frame.specs.declared.Request.the-variants.{Refused, Read, Write}
@@ -24,10 +24,11 @@ pub record Side : Type 0 where
 
 -- ---- the answer
 
--- a read, by its command's row. 6: reserved command; 7: optional command not built; else what comes with the block or the word (RULES 1.6, 1.7)
+-- a read, by its command's row. 6: reserved command; 7: optional command not built; 8: read of a write-only command; else what comes with the block or the word (RULES 1.6 to 1.8)
 abbrev pub readAnswer : Side → ℕ → Kind → ℕ
 readAnswer d command Reserved = 6
 readAnswer d command Optional = 7
+readAnswer d command WriteOnly = 8
 readAnswer d command Block = d .blockAnswer command
 readAnswer d command ReadOnly = d .wordAnswer command
 readAnswer d command ReadWrite = d .wordAnswer command
@@ -38,6 +39,7 @@ writeAnswer Reserved = 6
 writeAnswer Optional = 7
 writeAnswer Block = 8
 writeAnswer ReadOnly = 8
+writeAnswer WriteOnly = 0
 writeAnswer ReadWrite = 0
 
 -- what a request is answered; 3, 4 and 5 come with it
@@ -77,6 +79,7 @@ abbrev pub readBody : Side → ℕ → Kind → List ℕ
 readBody d command Block = blockBody (d .block command)
 readBody d command ReadOnly = wordBody (d .word command)
 readBody d command ReadWrite = wordBody (d .word command)
+readBody d command WriteOnly = []
 readBody d command Optional = []
 readBody d command Reserved = []
 

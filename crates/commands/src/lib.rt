@@ -1,12 +1,13 @@
 // The commands of the pack, each with its row, and the error code that an answer leaves. Only our own crates call these.
 ghost use mathlib.Core.Path.{_≡_};
-ghost use Rattle.commands.specs.Answers.{codeAfter};
+ghost use Rattle.commands.specs.Answers.{writeAnswer, codeAfter};
 ghost use Rattle.commands.specs.Commands.{kindOf};
 
 // A command's row.
 pub enum Kind {
     ReadWrite,
     ReadOnly,
+    WriteOnly,
     Block,
     Optional,
     Reserved,
@@ -88,6 +89,20 @@ pub fn row(command: u8) -> Kind
         return Kind::Reserved;
     }
     KINDS[command as usize]
+}
+
+// What a right write is answered, by its command's row.
+pub fn write_answer(kind: Kind) -> u8
+    ensures { λ r. ⌜ r ≡ writeAnswer kind ⌝ }
+{
+    match kind {
+        Kind::Reserved => 6,
+        Kind::Optional => 7,
+        Kind::Block => 8,
+        Kind::ReadOnly => 8,
+        Kind::WriteOnly => 0,
+        Kind::ReadWrite => 0,
+    }
 }
 
 // The error code left, by the answer.

@@ -12,7 +12,7 @@ use Rattle.commands.proofs.Answers.{unsound, small-room, past-two}
 use Rattle.commands.specs.Answers.{readAnswer, writeAnswer, requestAnswer, served, readBody, sideReply}
 use Rattle.commands.specs.Lengths.{Lengths}
 use Rattle.commands.specs.declared.Kind.{Kind}
-use Rattle.commands.specs.declared.Kind.the-variants.{ReadWrite, ReadOnly, Block, Optional, Reserved}
+use Rattle.commands.specs.declared.Kind.the-variants.{ReadWrite, ReadOnly, WriteOnly, Block, Optional, Reserved}
 use Rattle.commands_laws.specs.Visits.{Visit, visitAsked, visitAnswer, visitBody, visitExchange, Heard, VisitReads, ServedHeard, ReadByRow, WriteByRow, ReadInRows, WriteInRows, ServedReply, ExchangePasses, ExchangeLength, ExchangeAccepted, VisitExchanged, ExchangesApart, VisitMisheard}
 use Rattle.frame.specs.Transactions.{readBytes, replyOf}
 use Rattle.frame.specs.declared.Request.{Request}
@@ -84,6 +84,7 @@ built Reserved = true
 built Block = true
 built ReadOnly = true
 built ReadWrite = true
+built WriteOnly = true
 
 pub exchange-length : ExchangeLength
 exchange-length v command r h short =
@@ -95,6 +96,7 @@ exchange-length v command r h short =
     go Block e = (λ q. true≢false (ap built q), block-exchange (v .side .address) command (v .side .block command) short)
     go ReadWrite e = (λ q. true≢false (ap built q), word-exchange (v .side .address) command (v .side .word command))
     go ReadOnly e = (λ q. true≢false (ap built q), word-exchange (v .side .address) command (v .side .word command))
+    go WriteOnly e = absurd (true≢false (sym e))
     go Optional e = absurd (true≢false (sym e))
     go Reserved e = absurd (true≢false (sym e))
 
@@ -103,6 +105,7 @@ two-to-37 : (k : Kind) (n : ℕ) → (k ≡ Optional → ⊥) × Lengths k n →
 two-to-37 ReadWrite n (built-in, l) = (omega (arith, l), omega (arith, l))
 two-to-37 ReadOnly n (built-in, l) = (omega (arith, l), omega (arith, l))
 two-to-37 Block n (built-in, l) = (omega (arith, l .0), l .1)
+two-to-37 WriteOnly n (built-in, l) = absurd l
 two-to-37 Optional n (built-in, l) = absurd (built-in refl)
 two-to-37 Reserved n (built-in, l) = absurd l
 
@@ -117,6 +120,7 @@ body-bytes : (v : Visit) (x : VisitExchanged v) (k : Kind) → Bytes (readBody (
 body-bytes v x Block = block-bytes (v .side .block (x .command)) (x .short) (x .block)
 body-bytes v x ReadWrite = word-bytes (v .side .word (x .command)) (x .word)
 body-bytes v x ReadOnly = word-bytes (v .side .word (x .command)) (x .word)
+body-bytes v x WriteOnly = tt
 body-bytes v x Optional = tt
 body-bytes v x Reserved = tt
 

@@ -16,7 +16,7 @@ use Rattle.clock.specs.Sample.{movedOf}
 use Rattle.commands.specs.Answers.{readAnswer, requestAnswer, sideAnswer, served, readBody, sideReply}
 use Rattle.commands.specs.Commands.{kindOf}
 use Rattle.commands.specs.declared.Kind.{Kind}
-use Rattle.commands.specs.declared.Kind.the-variants.{ReadWrite, ReadOnly, Block, Optional, Reserved}
+use Rattle.commands.specs.declared.Kind.the-variants.{ReadWrite, ReadOnly, WriteOnly, Block, Optional, Reserved}
 use Rattle.frame_laws.proofs.Requests.{read-is}
 use Rattle.frame.specs.Transactions.{replyOf, wordBody}
 use Rattle.frame.specs.declared.Request.{Request}
@@ -56,6 +56,7 @@ module _ (s t : State) (h : SameBut s t) where
   row-answer c command Block = refl
   row-answer c command ReadOnly = same-answer s t command (h .pack)
   row-answer c command ReadWrite = same-answer s t command (h .pack)
+  row-answer c command WriteOnly = refl
   row-answer c command Optional = refl
   row-answer c command Reserved = refl
 
@@ -79,6 +80,7 @@ module _ (s t : State) (h : SameBut s t) where
   same-body c command n Block = refl
   same-body c command n ReadOnly = ap wordBody (other-words s t command (h .pack) n)
   same-body c command n ReadWrite = ap wordBody (other-words s t command (h .pack) n)
+  same-body c command n WriteOnly = refl
   same-body c command n Optional = refl
   same-body c command n Reserved = refl
 

@@ -41,23 +41,30 @@ returns-2 c =
 
 returns-3 : tie.Need-returns-3
 returns-3 c =
-    let a = c .before .before .before .before .before .before .before .before .before .before .before .args in
-    let k = sym (c .before .before .before .before .before .before .row .ensures) ∙ c .before .before .before .before .enum-told3 .given .1 in
+    let a = c .before .before .before .before .before .before .before .before .args in
+    let k = sym (c .before .before .before .row .ensures) ∙ c .before .enum-told3 .given .1 in
     let e = by-row (a .s) (a .service .now) (a .factory .now) (a .bytes .now) (a .room .now) (a .command) k in
-    (c .before .before .serve-block .ensures .0 ∙ e .0, c .before .before .serve-block .ensures .1 ∙ e .1)
+    (c .unchanged3 .ensures ∙ e .0, e .1)
 
 returns-4 : tie.Need-returns-4
 returns-4 c =
     let a = c .before .before .before .before .before .before .before .before .before .before .before .args in
     let k = sym (c .before .before .before .before .before .before .row .ensures) ∙ c .before .before .before .before .enum-told4 .given .1 in
     let e = by-row (a .s) (a .service .now) (a .factory .now) (a .bytes .now) (a .room .now) (a .command) k in
-    let w = word-reply (a .s) (a .service .now) (a .factory .now) (a .bytes .now) (a .command) in
-    (c .before .before .serve-word .ensures .0 ∙ ap (λ (x : List ℕ). outcome (a .s) (wordAnswer (a .s) (a .command)) (a .s .pack) (length x)) w ∙ e .0, c .before .before .serve-word .ensures .1 ∙ ap (λ (x : List ℕ). placed x (a .room .now)) w ∙ e .1)
+    (c .before .before .serve-block .ensures .0 ∙ e .0, c .before .before .serve-block .ensures .1 ∙ e .1)
 
 returns-5 : tie.Need-returns-5
 returns-5 c =
     let a = c .before .before .before .before .before .before .before .before .before .before .before .args in
     let k = sym (c .before .before .before .before .before .before .row .ensures) ∙ c .before .before .before .before .enum-told5 .given .1 in
+    let e = by-row (a .s) (a .service .now) (a .factory .now) (a .bytes .now) (a .room .now) (a .command) k in
+    let w = word-reply (a .s) (a .service .now) (a .factory .now) (a .bytes .now) (a .command) in
+    (c .before .before .serve-word .ensures .0 ∙ ap (λ (x : List ℕ). outcome (a .s) (wordAnswer (a .s) (a .command)) (a .s .pack) (length x)) w ∙ e .0, c .before .before .serve-word .ensures .1 ∙ ap (λ (x : List ℕ). placed x (a .room .now)) w ∙ e .1)
+
+returns-6 : tie.Need-returns-6
+returns-6 c =
+    let a = c .before .before .before .before .before .before .before .before .before .before .before .args in
+    let k = sym (c .before .before .before .before .before .before .row .ensures) ∙ c .before .before .before .before .enum-told6 .given .1 in
     let e = by-row (a .s) (a .service .now) (a .factory .now) (a .bytes .now) (a .room .now) (a .command) k in
     let w = word-reply (a .s) (a .service .now) (a .factory .now) (a .bytes .now) (a .command) in
     (c .before .before .serve-word2 .ensures .0 ∙ ap (λ (x : List ℕ). outcome (a .s) (wordAnswer (a .s) (a .command)) (a .s .pack) (length x)) w ∙ e .0, c .before .before .serve-word2 .ensures .1 ∙ ap (λ (x : List ℕ). placed x (a .room .now)) w ∙ e .1)
@@ -77,11 +84,14 @@ serve-read-spec =
     (λ c κs. search needs)
     (λ c. search needs)
     (λ c κs. search needs)
+    (λ c. search needs)
+    (λ c κs. search needs)
     returns
     returns-2
-    (λ c. search needs)
     returns-3
     (λ c. search needs)
     returns-4
     (λ c. search needs)
-    returns-5)
+    returns-5
+    (λ c. search needs)
+    returns-6)
