@@ -15,6 +15,8 @@
 
 static uint8_t area[SNATCHBLOCK_AREA];
 static struct sb2_state state;
+static uint8_t charger_area[SNATCHBLOCK_CHARGER_AREA];
+static struct sb2_charger charger;
 static uint8_t room[256];
 static uint8_t text[4096];
 static uint8_t letters[1024], strokes[64];
@@ -26,7 +28,7 @@ static uint8_t key[139];
 static size_t sheet_length, capture_length, key_length, size;
 static uint32_t counter;
 static uint16_t millivolts = 14800;
-static uint8_t message[5] = {0x16};
+static uint8_t message[5];
 static bool reading;
 static size_t message_length;
 static volatile uint64_t sink;
@@ -266,6 +268,65 @@ static const struct sb2_set_up figures = {4000, 4000, 2000, 14800, 2, 7, 0x526F,
 static void set_up_c(void) { sink = (uint64_t)sb2_area_set_up(area, sizeof area, &figures); }
 static void set_up_s(void) { sink = (uint64_t)sb2_set_up(&state, &figures); }
 
+/* The charger: set up anew, asked for 2,000 mA and 16,800 mV, a second on. */
+static const struct sb2_sample at_rest = {14800, 0, 2981, 60000};
+static void charger_set_up_p(void)
+{
+    sink = snatchblock_charger_set_up(charger_area, sizeof charger_area, 14800, 0, 2981, 60000);
+}
+static void charger_set_up_c(void)
+{
+    sink = (uint64_t)sb2_area_charger_set_up(charger_area, sizeof charger_area, &at_rest);
+}
+static void charger_set_up_s(void) { sb2_charger_set_up(&charger, &at_rest); }
+
+static void charger_sound_p(void) { sink = snatchblock_charger_sound(charger_area, sizeof charger_area); }
+static void charger_sound_c(void) { sink = sb2_area_charger_sound(of(charger_area, sizeof charger_area)); }
+static void charger_sound_s(void) { sink = sb2_charger_sound(&charger); }
+
+static void charger_sample_p(void)
+{
+    sink = snatchblock_charger_sample(charger_area, sizeof charger_area, 14800, 1500, 2981, counter += 1000);
+}
+static void charger_sample_c(void)
+{
+    struct sb2_sample sample = {14800, 1500, 2981, counter += 1000};
+    sink = (uint64_t)sb2_area_charger_sample(charger_area, sizeof charger_area, &sample);
+}
+static void charger_sample_s(void)
+{
+    struct sb2_sample sample = {14800, 1500, 2981, counter += 1000};
+    sink = (uint64_t)sb2_charger_sample(&charger, &sample);
+}
+
+static void charger_transact_p(void)
+{
+    sink = snatchblock_charger_transact(charger_area, sizeof charger_area, reading, message, message_length, room, 3);
+}
+static void charger_transact_c(void)
+{
+    size_t length;
+    sink = (uint64_t)sb2_area_charger_transact(charger_area, sizeof charger_area, reading, of(message, message_length),
+                                               room, 3, &length);
+}
+static void charger_transact_s(void)
+{
+    size_t length;
+    sink = (uint64_t)sb2_charger_transact(&charger, reading, of(message, message_length), room, 3, &length);
+}
+
+static void charger_current_p(void) { sink = snatchblock_charger_current(charger_area, sizeof charger_area); }
+static void charger_current_c(void)
+{
+    uint16_t current;
+    sink = (uint64_t)sb2_area_charger_current(of(charger_area, sizeof charger_area), &current) + current;
+}
+static void charger_current_s(void)
+{
+    uint16_t current;
+    sink = (uint64_t)sb2_charger_current(&charger, &current) + current;
+}
+
 /* The entry of the header that a proved call is of. */
 static const struct {
     void (*call)(void);
@@ -293,6 +354,11 @@ static const struct {
     {open_p, "snatchblock_open_capture"},
     {step_p, "snatchblock_step_capture"},
     {shelf_p, "snatchblock_shelf_report"},
+    {charger_set_up_p, "snatchblock_charger_set_up"},
+    {charger_sound_p, "snatchblock_charger_sound"},
+    {charger_sample_p, "snatchblock_charger_sample"},
+    {charger_transact_p, "snatchblock_charger_transact"},
+    {charger_current_p, "snatchblock_charger_current"},
 };
 
 /* Its name, or - where there is none: a case of more than one, too. */
@@ -310,7 +376,7 @@ struct entry {
     char name[32];
     void (*call[3])(void); /* p, c, s */
     size_t size;
-    bool reading, power, with_pec, beyond;
+    bool reading, power, with_pec, beyond, of_charger;
     uint8_t command;
 };
 static struct entry entries[112];
@@ -348,6 +414,26 @@ static void add_beyond(uint8_t command)
     struct entry *e = add_command("read", true, command);
     e->beyond = true;
     snprintf(e->name, sizeof e->name, "read-%02X-beyond", command);
+}
+
+/* A read, or a write with its PEC, at the charger's address. */
+static void add_to_charger(const char *name, bool read, uint8_t command)
+{
+    struct entry *e = add(name, charger_transact_p, charger_transact_c, charger_transact_s);
+    e->of_charger = true;
+    e->reading = read;
+    e->command = command;
+    snprintf(e->name, sizeof e->name, "%s-%02X", name, command);
+}
+
+static void make_charger_entries(void)
+{
+    add("charger-set-up", charger_set_up_p, charger_set_up_c, charger_set_up_s);
+    add("charger-sound", charger_sound_p, charger_sound_c, charger_sound_s);
+    add("charger-sample", charger_sample_p, charger_sample_c, charger_sample_s);
+    add_to_charger("charger-read", true, 0x13);
+    add_to_charger("charger-write-pec", false, 0x14);
+    add("charger-current", charger_current_p, charger_current_c, charger_current_s);
 }
 
 static void make_entries(void)
@@ -418,6 +504,19 @@ static void write_both(uint8_t *pack, struct sb2_state *own, uint8_t command, ui
     (void)sb2_transact(own, false, of(write, 4), of(sheet, sheet_length), of(sheet, sheet_length), room, 34, &length);
 }
 
+/* A charger with both requests taken, in an area and in a state of its own. */
+static uint8_t start_charger_area[SNATCHBLOCK_CHARGER_AREA];
+static struct sb2_charger start_charger;
+static void make_charger(void)
+{
+    static const uint8_t requests[2][4] = {{0x12, 0x14, 0xD0, 0x07}, {0x12, 0x15, 0xA0, 0x41}};
+    size_t length;
+    sb2_charger_set_up(&start_charger, &at_rest);
+    for (size_t i = 0; i < 2; i++)
+        (void)sb2_charger_transact(&start_charger, false, of(requests[i], 4), room, 3, &length);
+    sb2_area_charger_store(&start_charger, start_charger_area);
+}
+
 static void make_start(void)
 {
     for (size_t i = 0; i < sizeof long_text; i += sizeof text)
@@ -438,6 +537,8 @@ static void prepare(const struct entry *e)
 {
     memcpy(area, start_area, sizeof area);
     state = start_state;
+    memcpy(charger_area, start_charger_area, sizeof charger_area);
+    charger = start_charger;
     if (e->power)
         write_both(area, &state, 0x03, 0x8000);
     if (e->beyond)
@@ -449,8 +550,9 @@ static void prepare(const struct entry *e)
     if (e->call[0] == walk_p)
         make_capture(walked, size);
     reading = e->reading;
+    message[0] = e->of_charger ? 0x12 : 0x16;
     message[1] = e->command;
-    message[2] = reading ? 0x17 : 0x10;
+    message[2] = (uint8_t)(reading ? message[0] + 1 : 0x10);
     message[3] = 0;
     message[4] = sb2_pec(of(message, 4));
     message_length = reading ? 3 : 5;
@@ -590,7 +692,9 @@ int main(int given, char **words)
 {
     make_data();
     make_start();
+    make_charger();
     make_entries();
+    make_charger_entries();
     if (given == 2 && strcmp(words[1], "names") == 0) {
         for (size_t i = 0; i < count; i++)
             printf("%s %s\n", entries[i].name, entry_of(entries[i].call[0]));

@@ -1,4 +1,4 @@
-/* The state in a lent area, part by part, as a firmware keeps it over the winter. */
+/* The state in a lent area, part by part, as a firmware keeps it over the winter; and the charger's in its own. */
 #include "inside.h"
 
 /* The number that so many bytes stand for, low byte first. */
@@ -254,5 +254,90 @@ int sb2_area_transact(uint8_t *area, size_t area_length, bool read, struct sb2_b
     int answer = sb2_transact(&state, read, message, service, factory, room, room_length, length);
     if (answer > SB2_NOT_FOR_PACK || answer == SB2_SERVED)
         store_transacted(&state, area);
+    return answer;
+}
+
+/* ---- the charger's area */
+
+/* Where the flag of each fact stands, from the lowest bit up. */
+static const size_t fact_at[] = {2, 3, 6, 7, 8};
+enum { FACTS = sizeof fact_at / sizeof *fact_at, CURRENT_AT = 0, VOLTAGE_AT = 4, SILENCE_AT = 9, MEASURED_AT = 13 };
+
+bool sb2_area_charger_load(struct sb2_bytes area, struct sb2_charger *charger)
+{
+    unsigned facts = 0;
+    if (area.length != SB2_CHARGER_AREA)
+        return false;
+    for (size_t i = 0; i < FACTS; i++) {
+        if (area.at[fact_at[i]] > 1)
+            return false;
+        facts |= (unsigned)area.at[fact_at[i]] << i;
+    }
+    const uint8_t *current = area.at + CURRENT_AT, *voltage = area.at + VOLTAGE_AT, *silence = area.at + SILENCE_AT;
+    charger->facts = facts;
+    charger->current = word(&current);
+    charger->voltage = word(&voltage);
+    charger->silence = (uint32_t)number(&silence, 4);
+    load_latest(area.at + MEASURED_AT, &charger->latest);
+    return true;
+}
+
+void sb2_area_charger_store(const struct sb2_charger *charger, uint8_t area[SB2_CHARGER_AREA])
+{
+    uint8_t *current = area + CURRENT_AT, *voltage = area + VOLTAGE_AT, *silence = area + SILENCE_AT;
+    for (size_t i = 0; i < FACTS; i++)
+        area[fact_at[i]] = (uint8_t)(charger->facts >> i & 1);
+    put_word(&current, charger->current);
+    put_word(&voltage, charger->voltage);
+    put(&silence, 4, charger->silence);
+    store_latest(area + MEASURED_AT, &charger->latest);
+}
+
+int sb2_area_charger_set_up(uint8_t *area, size_t area_length, const struct sb2_sample *first)
+{
+    struct sb2_charger charger;
+    if (area_length != SB2_CHARGER_AREA)
+        return SB2_NOT_SOUND;
+    sb2_charger_set_up(&charger, first);
+    sb2_area_charger_store(&charger, area);
+    return SB2_SERVED;
+}
+
+bool sb2_area_charger_sound(struct sb2_bytes area)
+{
+    struct sb2_charger charger;
+    return sb2_area_charger_load(area, &charger) && sb2_charger_sound(&charger);
+}
+
+int sb2_area_charger_current(struct sb2_bytes area, uint16_t *current)
+{
+    struct sb2_charger charger;
+    *current = 0;
+    return sb2_area_charger_load(area, &charger) ? sb2_charger_current(&charger, current) : SB2_NOT_SOUND;
+}
+
+int sb2_area_charger_sample(uint8_t *area, size_t area_length, const struct sb2_sample *sample)
+{
+    struct sb2_charger charger;
+    struct sb2_bytes lent = {area, area_length};
+    if (!sb2_area_charger_load(lent, &charger))
+        return SB2_NOT_SOUND;
+    int answer = sb2_charger_sample(&charger, sample);
+    if (answer == SB2_SERVED)
+        sb2_area_charger_store(&charger, area);
+    return answer;
+}
+
+int sb2_area_charger_transact(uint8_t *area, size_t area_length, bool read, struct sb2_bytes message, uint8_t *room,
+                              size_t room_length, size_t *length)
+{
+    struct sb2_charger charger;
+    struct sb2_bytes lent = {area, area_length};
+    *length = 0;
+    if (!sb2_area_charger_load(lent, &charger))
+        return SB2_NOT_SOUND;
+    int answer = sb2_charger_transact(&charger, read, message, room, room_length, length);
+    if (answer == SB2_SERVED && !read)
+        sb2_area_charger_store(&charger, area);
     return answer;
 }

@@ -1,8 +1,10 @@
-/* A second, separately written form of the battery pack's rules, in plain C11.
+/* A second, separately written form of the battery pack's rules and of the
+ * charger's, in plain C11.
  *
- * It is written from document 01, the requests of document 02 and the Smart
- * Battery Data Specification 1.1, to be run beside the proved library and
- * compared with it; README.md says which few points it shares with that library.
+ * It is written from document 01, the requests of document 02, the Smart Battery
+ * Data Specification 1.1 and source document 000, to be run beside the proved
+ * library and compared with it; README.md says which few points it shares with
+ * that library.
  * "Rule:" in a comment names the section of document 01, or the request, that a
  * function carries out.
  *
@@ -22,12 +24,12 @@ enum sb2_answer {
     SB2_SERVED = 0,
     SB2_NOT_SOUND = 1,
     SB2_SMALL_ROOM = 2,
-    SB2_NOT_FOR_PACK = 3,
+    SB2_NOT_FOR_PACK = 3, /* nor for the charger, where it is asked */
     SB2_WRONG_FORM = 4,
     SB2_WRONG_PEC = 5,
     SB2_RESERVED = 6,
     SB2_NOT_BUILT = 7,
-    SB2_READ_ONLY = 8,
+    SB2_READ_ONLY = 8, /* of the charger also a read of what is only written */
     SB2_BAD_SHEET = 9,
     SB2_OVERFLOW = 10, /* served, and its word was cut off */
     SB2_BAD_SET_UP = 11,
@@ -231,6 +233,60 @@ int sb2_area_take_sample(uint8_t *area, size_t area_length, const struct sb2_sam
                          size_t room_length, size_t *length);
 int sb2_area_transact(uint8_t *area, size_t area_length, bool read, struct sb2_bytes message, struct sb2_bytes service,
                       struct sb2_bytes factory, uint8_t *room, size_t room_length, size_t *length);
+
+/* ---- the charger */
+
+/* What may be true of a charger beside its numbers, each a bit (rule: R-7). */
+enum {
+    SB2_CURRENT_TAKEN = 1 << 0,   /* a ChargingCurrent came since power-on */
+    SB2_CURRENT_AWAITED = 1 << 1, /* after an alarm: none came since */
+    SB2_VOLTAGE_TAKEN = 1 << 2,   /* the same of ChargingVoltage */
+    SB2_VOLTAGE_AWAITED = 1 << 3,
+    SB2_INHIBITED = 1 << 4 /* INHIBIT_CHARGE as last written */
+};
+
+/* Its times and sizes. */
+enum { SB2_SILENCE_MS = 175000, SB2_CHARGER_ROOM = 3, SB2_CHARGER_AREA = 23 };
+
+/* The charger at address 12; any content is allowed, and only some is sound. */
+struct sb2_charger {
+    unsigned facts;           /* which of the five are true; no other bit counts */
+    uint16_t current;         /* the last ChargingCurrent, mA; 0 where none was taken */
+    uint16_t voltage;         /* the last ChargingVoltage, mV; 0 where none was taken */
+    uint32_t silence;         /* ms with neither, 0 to 175,000 */
+    struct sb2_sample latest; /* what it measured last */
+};
+
+/* The power-on state with a first sample; it is sound (rule: R-7). */
+void sb2_charger_set_up(struct sb2_charger *charger, const struct sb2_sample *first);
+
+/* Tells whether the silence is at most 175,000 ms (rule: R-7). */
+bool sb2_charger_sound(const struct sb2_charger *charger);
+
+/* The current that it gives, mA: answers 0, or 1 with 0 mA (rule: R-7). */
+int sb2_charger_current(const struct sb2_charger *charger, uint16_t *current);
+
+/* Takes a sample: answers 0 or 1 (rule: R-7). */
+int sb2_charger_sample(struct sb2_charger *charger, const struct sb2_sample *sample);
+
+/* Carries out one transaction at address 12: answers 0 to 6 or 8; *length is the reply's, 3 for a served read, else 0
+ * (rule: R-7). `read` is the driver's mark. */
+int sb2_charger_transact(struct sb2_charger *charger, bool read, struct sb2_bytes message, uint8_t *room,
+                         size_t room_length, size_t *length);
+
+/* The charger in an area of 23 bytes, every number low byte first, a flag 0 or 1: ChargingCurrent, the flags taken and
+ * awaited; ChargingVoltage, its two flags; the flag inhibited; the silence, four bytes; the latest sample as in the
+ * pack's area. Loading is false, and loads nothing, for another size or a flag byte over 1. */
+bool sb2_area_charger_load(struct sb2_bytes area, struct sb2_charger *charger);
+void sb2_area_charger_store(const struct sb2_charger *charger, uint8_t area[SB2_CHARGER_AREA]);
+
+/* The five entries over it. Bytes that are no area answer 1; set-up, a sample taken and a served write store. */
+int sb2_area_charger_set_up(uint8_t *area, size_t area_length, const struct sb2_sample *first);
+bool sb2_area_charger_sound(struct sb2_bytes area);
+int sb2_area_charger_current(struct sb2_bytes area, uint16_t *current);
+int sb2_area_charger_sample(uint8_t *area, size_t area_length, const struct sb2_sample *sample);
+int sb2_area_charger_transact(uint8_t *area, size_t area_length, bool read, struct sb2_bytes message, uint8_t *room,
+                              size_t room_length, size_t *length);
 
 /* ---- check bytes */
 

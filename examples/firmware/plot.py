@@ -1,5 +1,5 @@
 #!/usr/bin/env python3
-"""Plots charge, voltage, alarms and charger messages of the firmware's days: plot.py TABLE.csv PLOT.svg
+"""Plots charge, voltage, charger's current, alarms and charger messages of the firmware's days: plot.py TABLE.csv PLOT.svg
 
 The time axis is cut where the table has no rows for over an hour: the pack was in store. A line marks where the pack
 learned its full capacity, another where the counter wrapped."""
@@ -7,9 +7,15 @@ learned its full capacity, another where the counter wrapped."""
 import csv
 import sys
 
-WIDTH, LEFT, RIGHT, CUT, HEIGHT = 1000, 178, 22, 54, 690
-TOP, BOTTOM = 64, 622  # of all panels
-PANELS = {"charge": (64, 150), "voltage": (252, 150), "alarms": (440, 100), "charger": (578, 44)}  # top and height
+WIDTH, LEFT, RIGHT, CUT, HEIGHT = 1000, 178, 22, 54, 818
+TOP, BOTTOM = 64, 750  # of all panels
+PANELS = {  # top and height
+    "charge": (64, 150),
+    "voltage": (252, 150),
+    "charger's current": (440, 90),
+    "alarms": (568, 100),
+    "charger": (706, 44),
+}
 ALARM_ROWS = [
     (14, "TERMINATE_CHARGE"),
     (12, "OVER_TEMP"),
@@ -19,8 +25,12 @@ ALARM_ROWS = [
 ]
 CHARGER_ROWS = [(0, "current and voltage"), (1, "alarm: stop")]
 INK, GRID, FAINT = "#333333", "#dddddd", "#888888"
-CHARGE, VOLTAGE, ALARM, CHARGER, STORE = "#1b7837", "#2166ac", "#b2182b", "#7b3294", "#eeeeee"
-MODES = [(0x2000, "#fde0b5", "hold: no alarms"), (0x4000, "#e7d4e8", "no charger words")]  # bits of BatteryMode
+CHARGE, VOLTAGE, CURRENT, ALARM, CHARGER, STORE = "#1b7837", "#2166ac", "#8c510a", "#b2182b", "#7b3294", "#eeeeee"
+MODES = [  # bits of BatteryMode and of ChargerStatus; how far above the panels the label stands
+    ("mode", 0x2000, "#fde0b5", "hold: no alarms", 26),
+    ("mode", 0x4000, "#e7d4e8", "no charger words", 10),
+    ("status", 0x0001, "#d1e5f0", "charger inhibited", 10),
+]
 HOUR, DAY, MINUTE = 3600, 86400, 60
 
 
@@ -122,13 +132,13 @@ def bars(axis, panel, name, title, names, colour):
 
 
 def modes(axis):
-    """A band where the host asked for no alarms, or for no words to the charger."""
+    """A band where the host asked for no alarms, or for no words to the charger, or inhibited it."""
     parts = []
-    for bit, colour, label in MODES:
+    for name, bit, colour, label, above in MODES:
         for i, rows in enumerate(axis.stretches):
-            for begin, end in runs(rows, lambda row, bit=bit: row["mode"] & bit):
+            for begin, end in runs(rows, lambda row, name=name, bit=bit: row[name] & bit):
                 x, to = axis.at(i, begin + MINUTE), min(axis.at(i, end + MINUTE), axis.ends()[i][1])
-                parts += [box(x, TOP, to, BOTTOM, colour), text(x, TOP - 26, label)]
+                parts += [box(x, TOP, to, BOTTOM, colour), text(x, TOP - above, label)]
     return parts
 
 
@@ -184,8 +194,9 @@ def main():
     parts += modes(axis) + hours(axis)
     parts += curve(axis, "percent", "charge, percent", CHARGE, 0, 100, 25)
     parts += curve(axis, "millivolts", "voltage, mV", VOLTAGE, low, high, 1000)
+    parts += curve(axis, "charging", "charger's current, mA, each minute's mean", CURRENT, 0, 1500, 500)
     parts += bars(axis, "alarms", "alarms", "alarms sent to the host", ALARM_ROWS, ALARM)
-    parts += bars(axis, "charger", "charger", "sent to the charger", CHARGER_ROWS, CHARGER)
+    parts += bars(axis, "charger", "charger", "taken by the charger", CHARGER_ROWS, CHARGER)
     parts += wraps(axis) + learned(axis) + cuts(axis) + ["</svg>"]
     with open(sys.argv[2], "w") as plot:
         plot.write("\n".join(parts) + "\n")

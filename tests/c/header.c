@@ -37,6 +37,30 @@ static bool pack_answers(void)
            room[2] == 0x7E;
 }
 
+/* A charger takes both requests, gives the current and says that it is of version 1.1; a pack's area is none of it. */
+static bool charger_answers(void)
+{
+    const uint8_t asks[2][4] = {{0x12, 0x14, 0xD0, 0x07}, {0x12, 0x15, 0xA0, 0x41}}, ask[3] = {0x12, 0x11, 0x13};
+    struct snatchblock_reading reading = {14800, 0, 0, 0};
+    uint8_t charger[SNATCHBLOCK_CHARGER_AREA];
+    uint32_t result = snatchblock_charger_set_up_from(charger, sizeof charger, &reading);
+    for (size_t i = 0; i < 2; i++)
+        result |= snatchblock_charger_transact(charger, sizeof charger, false, asks[i], 4, room, sizeof room);
+    reading.counter = 1000;
+    result |= snatchblock_charger_sample_from(charger, sizeof charger, &reading);
+    result |= snatchblock_charger_sample(charger, sizeof charger, 14800, 0, 0, 2000);
+    if (snatchblock_answer_of(result) != SNATCHBLOCK_SERVED || !snatchblock_charger_sound(charger, sizeof charger))
+        return false;
+    result = snatchblock_charger_current(charger, sizeof charger);
+    if (!snatchblock_served(result) || snatchblock_charger_current_of(result) != 2000)
+        return false;
+    result = snatchblock_charger_transact(charger, sizeof charger, true, ask, 3, room, SNATCHBLOCK_CHARGER_REPLY_ROOM);
+    if (snatchblock_length_of(result) != SNATCHBLOCK_CHARGER_REPLY_ROOM || room[0] != 3 || room[1] != 0)
+        return false;
+    result = snatchblock_charger_set_up(area, sizeof area, 14800, 0, 0, 0);
+    return snatchblock_answer_of(result) == SNATCHBLOCK_NOT_SOUND && !snatchblock_charger_sound(area, sizeof area);
+}
+
 /* One call of each other function, its result read by its accessors. */
 static const uint8_t exchange[6] = {0x16, 0x09, 0x17, 0xD0, 0x39, 0x7E};
 static const uint8_t *const name = exchange + 1;
@@ -93,7 +117,8 @@ static bool shelf_answers(void)
 
 int main(void)
 {
-    if (pack_answers() && messages_answer() && keys_answer() && sheets_answer() && captures_answer() && shelf_answers())
+    if (pack_answers() && charger_answers() && messages_answer() && keys_answer() && sheets_answer() &&
+        captures_answer() && shelf_answers())
         return 0;
     printf("header: an answer is wrong\n");
     return 1;

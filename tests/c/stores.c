@@ -1,6 +1,6 @@
-/* Which bytes of the area a call stores. The area lies over a seam: what stands before it may be written or not, what
- * stands after it may be read alone. A store past what the call owes ends the process, and each call is held to the
- * same call on an area in plain memory. Plain C11 and POSIX. */
+/* Which bytes of an area, the pack's or the charger's, a call stores. It lies over a seam: what stands before it may be
+ * written or not, what stands after it may be read alone. A store past what the call owes ends the process, and each
+ * call is held to the same call on an area in plain memory. Plain C11 and POSIX. */
 #define _DEFAULT_SOURCE
 #include "check.h"
 #include "snatchblock.h"
@@ -40,16 +40,21 @@ static void protect(uint8_t *page, int how)
     }
 }
 
-/* The state again, with its first bytes before the seam, those pages to be written or not; the rest is read only. */
-static uint8_t *across(size_t before, bool written)
+/* An area with its first bytes before the seam, those pages to be written or not; the rest is read only. */
+static uint8_t *laid(const uint8_t *bytes, size_t length, size_t before, bool written)
 {
     protect(seam - PAGE, PROT_READ | PROT_WRITE);
     protect(seam, PROT_READ | PROT_WRITE);
-    memcpy(seam - before, state, sizeof state);
+    memcpy(seam - before, bytes, length);
     protect(seam, PROT_READ);
     if (!written)
         protect(seam - PAGE, PROT_READ);
     return seam - before;
+}
+
+static uint8_t *across(size_t before, bool written)
+{
+    return laid(state, sizeof state, before, written);
 }
 
 static void new_state(void)
@@ -176,6 +181,89 @@ static void refused_samples(void)
     new_state();
 }
 
+/* ---- the charger: a served write and an accepted sample store, nothing else does */
+
+static uint8_t charger_state[SNATCHBLOCK_CHARGER_AREA];
+
+static uint8_t *charger_across(size_t before, bool written)
+{
+    return laid(charger_state, sizeof charger_state, before, written);
+}
+
+static uint32_t charger_made(uint8_t *area, const struct call *c, uint8_t *room)
+{
+    memset(room, MARK, SNATCHBLOCK_REPLY_ROOM);
+    return snatchblock_charger_transact(area, SNATCHBLOCK_CHARGER_AREA, c->read, c->bytes, c->length, room, c->room);
+}
+
+#define CHARGER_READ(command) (struct call){true, {0x12, command, 0x13}, 3, SNATCHBLOCK_CHARGER_REPLY_ROOM, no_names}
+#define CHARGER_WRITE(command, low, high) \
+    (struct call){false, {0x12, command, low, high}, 4, SNATCHBLOCK_CHARGER_REPLY_ROOM, no_names}
+
+/* A charger that was asked for 2,000 mA and 16,800 mV. */
+static void new_charger(void)
+{
+    uint8_t room[SNATCHBLOCK_REPLY_ROOM];
+    CHECK(snatchblock_charger_set_up(charger_state, sizeof charger_state, 14800, 0, 2981, 0), 0);
+    CHECK(charger_made(charger_state, &CHARGER_WRITE(0x14, 0xD0, 0x07), room), 0);
+    CHECK(charger_made(charger_state, &CHARGER_WRITE(0x15, 0xA0, 0x41), room), 0);
+}
+
+/* The call stores no byte of the area, wherever the seam lies, and leaves it as it was. */
+static void charger_nothing_at(int line, struct call c, uint32_t wanted)
+{
+    uint8_t room[SNATCHBLOCK_REPLY_ROOM];
+    for (size_t before = 0; before <= SNATCHBLOCK_CHARGER_AREA; before++) {
+        uint8_t *area = charger_across(before, false);
+        check_at(line, "the result", charger_made(area, &c, room), wanted);
+        check_at(line, "the area", (unsigned long long)memcmp(area, charger_state, sizeof charger_state), 0);
+    }
+}
+#define CHARGER_NOTHING(call, wanted) charger_nothing_at(__LINE__, call, wanted)
+
+static void charger_stores_nothing(void)
+{
+    struct call small_room = CHARGER_READ(0x13), no_bytes = CHARGER_READ(0x13);
+    struct call bad_pec = CHARGER_WRITE(0x14, 0xD0, 0x07);
+    small_room.room = SNATCHBLOCK_CHARGER_REPLY_ROOM - 1;
+    no_bytes.length = 0;
+    bad_pec.length = 5; /* it is ED */
+    new_charger();
+    CHARGER_NOTHING(CHARGER_READ(0x11), PACKED(0, 3));
+    CHARGER_NOTHING(CHARGER_READ(0x13), PACKED(0, 3));
+    CHARGER_NOTHING(small_room, 2);
+    small_room = CHARGER_WRITE(0x14, 0, 0);
+    small_room.room = SNATCHBLOCK_CHARGER_REPLY_ROOM - 1;
+    CHARGER_NOTHING(small_room, 2);
+    CHARGER_NOTHING(no_bytes, 3);
+    CHARGER_NOTHING(WRITE(0x14, 0, 0), 3);
+    CHARGER_NOTHING(((struct call){false, {0x12, 0x14, 0}, 3, SNATCHBLOCK_CHARGER_REPLY_ROOM, no_names}), 4);
+    CHARGER_NOTHING(bad_pec, 5);
+    CHARGER_NOTHING(CHARGER_READ(0x10), 6);
+    CHARGER_NOTHING(CHARGER_WRITE(0x17, 0, 0), 6);
+    CHARGER_NOTHING(CHARGER_READ(0x14), 8);
+    CHARGER_NOTHING(CHARGER_WRITE(0x13, 0, 0), 8);
+    charger_state[8] = 2;
+    CHARGER_NOTHING(CHARGER_READ(0x13), 1);
+    CHARGER_NOTHING(CHARGER_WRITE(0x12, 4, 0), 1);
+}
+
+/* No sample of a state that isn't sound, no set-up of another length, and no question stores. */
+static void charger_refuses(void)
+{
+    enum { BYTES = SNATCHBLOCK_CHARGER_AREA, COUNT = 9 };
+    new_charger();
+    CHECK(snatchblock_charger_sound(charger_across(0, false), BYTES), true);
+    CHECK(snatchblock_charger_current(charger_across(0, false), BYTES), PACKED(0, 2000));
+    CHECK(snatchblock_charger_set_up(charger_across(0, false), BYTES - 1, 14800, 0, 2981, 0), 1);
+    CHECK(snatchblock_charger_sample(charger_across(0, false), BYTES - 1, 14800, 0, 2981, 1000), 1);
+    charger_state[COUNT + 3] = 1; /* 16,777,216 ms */
+    CHECK(snatchblock_charger_sound(charger_across(0, false), BYTES), false);
+    CHECK(snatchblock_charger_current(charger_across(0, false), BYTES), 1);
+    CHECK(snatchblock_charger_sample(charger_across(0, false), BYTES, 14800, 0, 2981, 1000), 1);
+    CHECK(memcmp(seam, charger_state, BYTES), 0);
+}
+
 /* ---- that a store shows */
 
 /* In a child a store past the seam is what was asked; in the test itself it is a failure. */
@@ -192,16 +280,29 @@ static void strayed(int number)
     _exit(write(STDOUT_FILENO, words, sizeof words - 1) < 0 ? 2 : 1);
 }
 
-/* Whether a call that stores more ends there, tried in a child. */
-static bool faults(uint8_t *area, const struct call *c)
+static void pack_call(uint8_t *area, const struct call *c)
+{
+    uint8_t room[SNATCHBLOCK_REPLY_ROOM];
+    (void)(c ? made(area, c, room)
+             : snatchblock_sample(area, SNATCHBLOCK_AREA, 14800, 0, 2981, 1000, room, sizeof room));
+}
+
+static void charger_call(uint8_t *area, const struct call *c)
+{
+    uint8_t room[SNATCHBLOCK_REPLY_ROOM];
+    (void)(c ? charger_made(area, c, room)
+             : snatchblock_charger_sample(area, SNATCHBLOCK_CHARGER_AREA, 14800, 0, 2981, 1000));
+}
+
+/* Whether a call that stores more ends there, tried in a child. No call is a sample. */
+static bool faults_in(void (*call)(uint8_t *, const struct call *), uint8_t *area, const struct call *c)
 {
     fflush(stdout);
     pid_t child = fork();
     if (child == 0) {
-        uint8_t room[SNATCHBLOCK_REPLY_ROOM];
         signal(SIGSEGV, faulted);
         signal(SIGBUS, faulted);
-        (void)(c ? made(area, c, room) : snatchblock_sample(area, SNATCHBLOCK_AREA, 14800, 0, 2981, 1000, room, sizeof room));
+        call(area, c);
         _exit(0);
     }
     int status = 0;
@@ -210,6 +311,11 @@ static bool faults(uint8_t *area, const struct call *c)
         _exit(2);
     }
     return WIFEXITED(status) && WEXITSTATUS(status) == FAULT;
+}
+
+static bool faults(uint8_t *area, const struct call *c)
+{
+    return faults_in(pack_call, area, c);
 }
 
 /* A served write stores what the host wrote and the timers, so none of the recent seconds; a served sample all. */
@@ -228,6 +334,27 @@ static void shown(void)
     CHECK(faults(across(SNATCHBLOCK_RECENT, true), NULL), true);
 }
 
+/* A charger's served write stores, a sample to the last byte; what a write leaves is the same elsewhere. */
+static void charger_shown(void)
+{
+    enum { ALL = SNATCHBLOCK_CHARGER_AREA };
+    static const struct call writes[] = {
+        {false, {0x12, 0x12, 0x01, 0x00}, 4, 3, no_names}, {false, {0x12, 0x14, 0xC4, 0x09}, 4, 3, no_names},
+        {false, {0x12, 0x15, 0x68, 0x42}, 4, 3, no_names}, {false, {0x12, 0x16, 0x00, 0x40}, 4, 3, no_names}};
+    uint8_t room[SNATCHBLOCK_REPLY_ROOM];
+    new_charger();
+    for (size_t i = 0; i < sizeof writes / sizeof *writes; i++) {
+        CHECK(faults_in(charger_call, charger_across(0, true), &writes[i]), true);
+        CHECK(charger_made(charger_across(ALL, true), &writes[i], room), 0);
+        CHECK(charger_made(charger_state, &writes[i], room), 0);
+        CHECK(memcmp(seam - ALL, charger_state, ALL), 0);
+    }
+    CHECK(faults_in(charger_call, charger_across(0, true), NULL), true);
+    CHECK(faults_in(charger_call, charger_across(ALL - 1, true), NULL), true);
+    CHECK(faults_in(charger_call, charger_across(ALL, true), NULL), false);
+    CHECK(faults_in(charger_call, charger_across(0, false), &CHARGER_READ(0x13)), false);
+}
+
 int main(void)
 {
     signal(SIGSEGV, strayed);
@@ -239,5 +366,8 @@ int main(void)
     untouched();
     refused_samples();
     shown();
+    charger_stores_nothing();
+    charger_refuses();
+    charger_shown();
     return checked("stores");
 }

@@ -136,7 +136,7 @@ static void lend_area(const uint8_t *content, size_t length)
 
 /* ---- the call under way, for a report */
 
-enum area_use { NO_AREA, READS_AREA, WRITES_AREA };
+enum area_use { NO_AREA, READS_AREA, WRITES_AREA, WRITES_SERVED }; /* the last has no error code to leave */
 
 static struct {
     const char *entry;
@@ -213,14 +213,15 @@ static bool stays_behind(const struct both *b, size_t first)
     return memcmp(b->proved, b->before, from) == 0 && memcmp(b->proved + to, b->before + to, sizeof b->before - to) == 0;
 }
 
-/* The bytes of the area that document 01 lets an answer change: past 3 the error code alone, of 10 too, for a read. */
+/* The bytes of the area that document 01 lets an answer change: past 3 the error code alone, of 10 too, for a read; the
+ * charger has none. */
 static size_t area_may_change(unsigned answer)
 {
-    if (call.area != WRITES_AREA)
+    if (call.area < WRITES_AREA)
         return 0;
     if (answer == SB2_SERVED)
         return area.length;
-    return answer > SB2_NOT_FOR_PACK && answer <= SB2_OVERFLOW;
+    return call.area == WRITES_AREA && answer > SB2_NOT_FOR_PACK && answer <= SB2_OVERFLOW;
 }
 
 /* Every entry with a room answers in the low byte and has the bytes written above it, none where it refused. */
@@ -260,7 +261,8 @@ static void compare(uint64_t proved, uint64_t second)
 enum { ANSWERS = 18 };
 enum entry {
     SET_UP, SOUND, SAMPLE, TRANSACT, PEC, EXCHANGE, BITS, WRITE_KEY, READ_KEY, UNESCAPE, WRITE_SHEET, IS_SHEET, BLOCK,
-    OPEN, STEP, SHELF, SHELF_FROM, ENTRIES
+    OPEN, STEP, SHELF, SHELF_FROM, CHARGER_SET_UP, CHARGER_SOUND, CHARGER_SAMPLE, CHARGER_TRANSACT, CHARGER_CURRENT,
+    ENTRIES
 };
 static const struct {
     const char *name;
@@ -283,6 +285,11 @@ static const struct {
     [STEP] = {"step_capture", 1u << 0 | 1u << 14},
     [SHELF] = {"shelf_report", 1u << 0 | 1u << 2 | 1u << 4 | 1u << 16 | 1u << 17},
     [SHELF_FROM] = {"shelf_report_from", 1u << 0 | 1u << 16 | 1u << 17},
+    [CHARGER_SET_UP] = {"charger_set_up", 3},
+    [CHARGER_SOUND] = {"charger_sound (0 false, 1 true)", 3},
+    [CHARGER_SAMPLE] = {"charger_sample", 3},
+    [CHARGER_TRANSACT] = {"charger_transact", 0x17F},
+    [CHARGER_CURRENT] = {"charger_current", 3},
 };
 static uint64_t came[ENTRIES][ANSWERS];
 
@@ -310,7 +317,15 @@ enum other {
     ABSOLUTE = LEARNED_BY_DESIGN + 3, TANK_TOWARD = ABSOLUTE + 3, TANK_OPEN = TANK_TOWARD + 4,
     TANK_CLOSED = TANK_OPEN + 4, TANK_FLAG = TANK_CLOSED + 4, SET_UP_OF = TANK_FLAG + 8, ROOM_OF = SET_UP_OF + 4,
     BEFORE_2 = ROOM_OF + 2 * 22, ONE_ROOM = BEFORE_2 + 3, DUE_REFUSED = ONE_ROOM + 7, DUE_SERVED = DUE_REFUSED + 5,
-    PLAIN_FLAG = DUE_SERVED + 5, ALTERED = PLAIN_FLAG + 4, OTHERS = ALTERED + 4
+    PLAIN_FLAG = DUE_SERVED + 5, ALTERED = PLAIN_FLAG + 4, C_READ = ALTERED + 4, C_WRITE = C_READ + 2,
+    C_STATUS_SET = C_WRITE + 2 * 4, C_STATUS_CLEAR = C_STATUS_SET + 16, C_FLOWS = C_STATUS_CLEAR + 16, C_ZERO,
+    C_MODE_SET = C_ZERO + 8, C_MODE_CLEAR = C_MODE_SET + 16, C_RESET = C_MODE_CLEAR + 16, C_POWER_ON = C_RESET + 2 * 4,
+    C_ALARM_BIT = C_POWER_ON + 4, C_ALARM_NONE = C_ALARM_BIT + 16, C_ALARM_AT, C_REQUEST = C_ALARM_AT + 3 * 4,
+    C_BACK = C_REQUEST + 2 * 4, C_AGAIN = C_BACK + 2, C_GAP = C_AGAIN + 2, C_COUNT_TO = C_GAP + 9,
+    C_COUNT = C_COUNT_TO + 4, C_FLAG = C_COUNT + 5, C_LENGTH = C_FLAG + 5 * 4, C_ROOM = C_LENGTH + 5 * 5,
+    C_COMMAND = C_ROOM + 2 * 5, C_ADDRESS = C_COMMAND + 2 * 256, C_FORM = C_ADDRESS + 5, C_BOTH = C_FORM + 3,
+    C_ALTERED = C_BOTH + 21, C_DELIVERED = C_ALTERED + 4, C_STOPPED = C_DELIVERED + 2 * 4, C_STARTED = C_STOPPED + 2,
+    OTHERS
 };
 static uint64_t other[OTHERS];
 
@@ -2133,11 +2148,612 @@ static void play_shelf(void)
     play_shelf_structs();
 }
 
+/* ---- the charger */
+
+/* Where its area keeps what: of a request the word, then two flags. */
+enum { C_CURRENT_AT = 0, C_VOLTAGE_AT = 4, C_TAKEN = 2, C_AWAITED = 3, C_INHIBITED_AT = 8, C_COUNT_AT = 9,
+       C_COUNTER_AT = 19 };
+static const size_t charger_flags[5] = {C_CURRENT_AT + C_TAKEN, C_CURRENT_AT + C_AWAITED, C_VOLTAGE_AT + C_TAKEN,
+                                        C_VOLTAGE_AT + C_AWAITED, C_INHIBITED_AT};
+static uint8_t charger_area[AREA_MOST]; /* between calls */
+
+static struct sb2_bytes charger_bytes(void)
+{
+    return bytes_of(charger_area, SB2_CHARGER_AREA);
+}
+
+static void put_charger(size_t at, size_t bytes, uint32_t value)
+{
+    for (size_t i = 0; i < bytes; i++)
+        charger_area[at + i] = (uint8_t)(value >> 8 * i);
+}
+
+static uint32_t charger_number(size_t at, size_t bytes)
+{
+    uint32_t value = 0;
+    for (size_t i = 0; i < bytes; i++)
+        value |= (uint32_t)charger_area[at + i] << 8 * i;
+    return value;
+}
+
+static void keep_charger(void)
+{
+    if (area.length == SB2_CHARGER_AREA)
+        memcpy(charger_area, area.s, SB2_CHARGER_AREA);
+}
+
+/* What flows now, by the second program alone; 0 of what isn't sound. */
+static uint16_t charger_flow(void)
+{
+    uint16_t current;
+    (void)sb2_area_charger_current(charger_bytes(), &current);
+    return current;
+}
+
+/* Mostly the right size, at times any. */
+static size_t charger_size(void)
+{
+    return one_in(40) ? below(AREA_MOST + 1) : SB2_CHARGER_AREA;
+}
+
+/* An area of another size came to one of the five entries. */
+static void note_charger_size(unsigned entry, size_t length)
+{
+    unsigned class = length == 0 ? 0 : length == SB2_CHARGER_AREA - 1 ? 1 : length == SB2_CHARGER_AREA + 1 ? 2 : 3;
+    if (length != SB2_CHARGER_AREA)
+        other[C_LENGTH + 5 * entry + (class < 3 || length == SNATCHBLOCK_AREA ? class : 4)]++;
+}
+
+static void note_sample(struct sb2_sample sample)
+{
+    note(sample.voltage), note((uint16_t)sample.current), note(sample.temperature), note(sample.counter);
+}
+
+static void play_charger_set_up(struct sb2_sample first, size_t length)
+{
+    if (length == SB2_CHARGER_AREA)
+        fill(charger_area, length);
+    lend_area(charger_area, length);
+    begin("charger_set_up", 0, WRITES_SERVED, false);
+    note_sample(first);
+    uint32_t proved = snatchblock_charger_set_up(area.p, length, first.voltage, first.current, first.temperature,
+                                                 first.counter);
+    uint32_t second = (uint32_t)sb2_area_charger_set_up(area.s, length, &first);
+    compare(proved, second);
+    came_up(CHARGER_SET_UP, second);
+    note_charger_size(0, length);
+    keep_charger();
+}
+
+static void play_charger_sound(size_t length)
+{
+    lend_area(charger_area, length);
+    begin("charger_sound", 0, READS_AREA, false);
+    bool proved = snatchblock_charger_sound(area.p, length);
+    bool second = sb2_area_charger_sound(bytes_of(area.s, length));
+    compare(proved, second);
+    came_up(CHARGER_SOUND, second);
+    note_charger_size(1, length);
+}
+
+/* Why no current flows; counted where one reason alone stands against it. */
+static void note_charger_current(void)
+{
+    struct sb2_charger c;
+    (void)sb2_area_charger_load(charger_bytes(), &c);
+    bool current_taken = c.facts & SB2_CURRENT_TAKEN, voltage_taken = c.facts & SB2_VOLTAGE_TAKEN;
+    const bool reasons[8] = {!current_taken, current_taken && c.current == 0, !voltage_taken,
+                             voltage_taken && c.voltage == 0, c.facts & SB2_CURRENT_AWAITED,
+                             c.facts & SB2_VOLTAGE_AWAITED, c.facts & SB2_INHIBITED, c.silence == SB2_SILENCE_MS};
+    unsigned count = 0, last = 0;
+    for (unsigned i = 0; i < 8; i++)
+        if (reasons[i]) {
+            count++;
+            last = i;
+        }
+    if (count < 2)
+        other[count == 0 ? C_FLOWS : C_ZERO + last]++;
+}
+
+static void play_charger_current(size_t length)
+{
+    uint16_t current;
+    lend_area(charger_area, length);
+    begin("charger_current", 0, READS_AREA, false);
+    uint32_t proved = snatchblock_charger_current(area.p, length);
+    int answer = sb2_area_charger_current(bytes_of(area.s, length), &current);
+    compare(proved, (uint32_t)answer | (uint32_t)current << 8);
+    came_up(CHARGER_CURRENT, (uint32_t)answer);
+    note_charger_size(2, length);
+    if (answer == SB2_SERVED)
+        note_charger_current();
+}
+
+/* Where a served sample brought the count. */
+static void note_charger_count(uint32_t before, uint32_t elapsed)
+{
+    if (before == SB2_SILENCE_MS)
+        other[C_COUNT_TO + 3] += elapsed > 0;
+    else if (before + elapsed == SB2_SILENCE_MS - 1)
+        other[C_COUNT_TO]++;
+    else if (elapsed >= SB2_SILENCE_MS - before)
+        other[C_COUNT_TO + 1 + (elapsed > SB2_SILENCE_MS - before)]++;
+}
+
+static void play_charger_sample(struct sb2_sample sample, size_t length)
+{
+    uint32_t before = charger_number(C_COUNT_AT, 4), elapsed = sample.counter - charger_number(C_COUNTER_AT, 4);
+    lend_area(charger_area, length);
+    begin("charger_sample", 0, WRITES_SERVED, false);
+    note_sample(sample);
+    uint32_t proved = snatchblock_charger_sample(area.p, length, sample.voltage, sample.current, sample.temperature,
+                                                 sample.counter);
+    uint32_t second = (uint32_t)sb2_area_charger_sample(area.s, length, &sample);
+    compare(proved, second);
+    came_up(CHARGER_SAMPLE, second);
+    note_charger_size(3, length);
+    if (second == SB2_SERVED)
+        note_charger_count(before, elapsed);
+    keep_charger();
+}
+
+/* ---- its transactions */
+
+/* What each request finds: awaited are none, this one, the other, both. */
+static unsigned awaited_beside(size_t request)
+{
+    size_t beside = request == C_CURRENT_AT ? C_VOLTAGE_AT : C_CURRENT_AT;
+    return charger_area[request + C_AWAITED] | (unsigned)charger_area[beside + C_AWAITED] << 1;
+}
+
+static void note_charger_mode(uint16_t word)
+{
+    unsigned taken = charger_area[C_CURRENT_AT + C_TAKEN] | (unsigned)charger_area[C_VOLTAGE_AT + C_TAKEN] << 1;
+    for (unsigned bit = 0; bit < 16; bit++)
+        other[(word >> bit & 1 ? C_MODE_SET : C_MODE_CLEAR) + bit]++;
+    if ((word & 1 << 2) == 0) {
+        if (word & 1 << 3)
+            other[C_RESET + 4 * (word & 1u) + taken]++;
+        return;
+    }
+    other[C_POWER_ON] += charger_area[C_INHIBITED_AT];
+    other[C_POWER_ON + 1] += awaited_beside(C_CURRENT_AT) > 0;
+    other[C_POWER_ON + 2] += taken == 3;
+    other[C_POWER_ON + 3] += (word & 9) == 9;
+}
+
+static void note_charger_alarm(uint16_t word)
+{
+    unsigned taken = (unsigned)charger_area[C_CURRENT_AT + C_TAKEN] + charger_area[C_VOLTAGE_AT + C_TAKEN];
+    for (unsigned bit = 0; bit < 16; bit++)
+        if (word >> bit & 1)
+            other[C_ALARM_BIT + bit]++;
+    if (word & 0xF000)
+        other[C_ALARM_AT + 4 * taken + awaited_beside(C_CURRENT_AT)]++;
+    else
+        other[C_ALARM_NONE]++;
+}
+
+/* A served write, by the area before it. */
+static void note_charger_write(uint8_t command, uint16_t word, bool with_pec)
+{
+    other[C_WRITE + 4u * with_pec + (command == 0x12 ? 0 : command - 0x13u)]++;
+    if (command == 0x12)
+        note_charger_mode(word);
+    else if (command == 0x16)
+        note_charger_alarm(word);
+    else {
+        size_t request = command == 0x14 ? C_CURRENT_AT : C_VOLTAGE_AT;
+        other[C_REQUEST + 4 * (command - 0x14u) + awaited_beside(request)]++;
+        other[C_AGAIN + command - 0x14u] += charger_number(C_COUNT_AT, 4) == SB2_SILENCE_MS;
+    }
+}
+
+/* A request that ended an alarm, and now a current flows. */
+static void note_charger_back(uint8_t command, unsigned awaited)
+{
+    if ((command == 0x14 || command == 0x15) && awaited == 1 && charger_flow() > 0)
+        other[C_BACK + command - 0x14u]++;
+}
+
+/* Each two of the seven conditions that held at once; a form and a PEC, 6 and 8 never do. */
+static void note_charger_order(bool sound, bool read, struct sb2_bytes m)
+{
+    uint8_t command = m.length > 1 ? m.at[1] : 0x11;
+    bool accepted = true, only_read = command == 0x11 || command == 0x13;
+    if (!read && m.length == 5)
+        (void)sb2_check_exchange(m, &accepted);
+    const bool reserved = command < 0x11 || command > 0x16;
+    const bool holds[7] = {!sound, room.length < SB2_CHARGER_ROOM, m.length == 0 || m.at[0] != 0x12,
+                           read ? m.length != 3 || m.at[2] != 0x13 : m.length != 4 && m.length != 5, !accepted,
+                           reserved, m.length > 1 && !reserved && only_read != read};
+    for (size_t i = 0, both = 0; i < 7; i++)
+        for (size_t j = i + 1; j < 7; j++, both++)
+            if (holds[i] && holds[j])
+                other[C_BOTH + both]++;
+}
+
+/* What a message was refused for, or that it was right but for its command or its room. */
+static void note_charger_message(int answer, bool read, struct sb2_bytes m)
+{
+    if (answer == SB2_NOT_FOR_PACK)
+        other[C_ADDRESS + (m.length == 0 ? 0 : m.at[0] == 0x10 ? 1 : m.at[0] == 0x13 ? 2 : m.at[0] == 0x16 ? 3 : 4)]++;
+    else if (answer == SB2_WRONG_FORM)
+        other[C_FORM + (read ? m.length == 3 : 2)]++;
+    else if (answer == SB2_SERVED || answer == SB2_RESERVED || answer == SB2_READ_ONLY)
+        other[C_COMMAND + 256u * !read + m.at[1]]++;
+    if (answer == SB2_SERVED || answer == SB2_SMALL_ROOM)
+        other[C_ROOM + 5u * !read + (room.length < 4 ? room.length : 4)]++;
+}
+
+/* The word of a served read of 13. */
+static void note_charger_status(uint16_t word)
+{
+    for (unsigned bit = 0; bit < 16; bit++)
+        other[(word >> bit & 1 ? C_STATUS_SET : C_STATUS_CLEAR) + bit]++;
+}
+
+static int play_charger_message(const uint8_t *message, size_t message_length, bool read, size_t length,
+                                size_t room_length)
+{
+    bool sound = length == SB2_CHARGER_AREA && sb2_area_charger_sound(charger_bytes());
+    unsigned awaited = message_length > 1 ? awaited_beside(message[1] == 0x15 ? C_VOLTAGE_AT : C_CURRENT_AT) : 0;
+    size_t sent;
+    lend_area(charger_area, length);
+    lend_room(room_length);
+    struct sb2_bytes m = lend(0, message, message_length);
+    begin("charger_transact", 1, read ? READS_AREA : WRITES_SERVED, true);
+    note(read);
+    uint32_t proved = snatchblock_charger_transact(area.p, length, read, m.at, m.length, room.p, room.length);
+    int answer = sb2_area_charger_transact(area.s, length, read, m, room.s, room.length, &sent);
+    compare(proved, (uint32_t)answer | (uint32_t)sent << 8);
+    came_up(CHARGER_TRANSACT, (uint32_t)answer);
+    note_charger_size(4, length);
+    note_charger_order(sound, read, m);
+    note_charger_message(answer, read, m);
+    if (answer == SB2_SERVED && read) {
+        other[C_READ + (message[1] == 0x13)]++;
+        if (message[1] == 0x13)
+            note_charger_status((uint16_t)(room.s[0] | room.s[1] << 8));
+    } else if (answer == SB2_SERVED)
+        note_charger_write(message[1], (uint16_t)(message[2] | message[3] << 8), message_length == 5);
+    keep_charger();
+    if (answer == SB2_SERVED && !read)
+        note_charger_back(message[1], awaited);
+    return answer;
+}
+
+/* Reads or writes whole, in the least room. */
+static void play_charger_read(uint8_t command)
+{
+    const uint8_t ask[3] = {0x12, command, 0x13};
+    (void)play_charger_message(ask, 3, true, SB2_CHARGER_AREA, SB2_CHARGER_ROOM);
+}
+
+static void play_charger_write(uint8_t command, uint16_t word)
+{
+    uint8_t message[5] = {0x12, command, (uint8_t)(word & 0xFF), (uint8_t)(word >> 8)};
+    message[4] = sb2_pec(bytes_of(message, 4));
+    (void)play_charger_message(message, 4 + below(2), false, SB2_CHARGER_AREA, SB2_CHARGER_ROOM);
+}
+
+/* A word that a command can be given: every bit of 12 and 16 alone, with others, and not at all. */
+static uint16_t charger_word(uint8_t command)
+{
+    if (command == 0x12)
+        return (uint16_t)(below(16) | (one_in(4) ? draw() << 4 : 0));
+    if (command == 0x16)
+        return (uint16_t)(one_in(3) ? 1u << below(16) : one_in(3) ? below(0x1000) : draw());
+    return one_in(6) ? 0 : some_word();
+}
+
+/* One to three altered bits of a message that has so many bytes. */
+static void alter(uint8_t *message, size_t length, uint32_t bits)
+{
+    uint8_t was[64];
+    memcpy(was, message, length);
+    while (bits > 0) {
+        uint32_t place = below(8 * (uint32_t)length);
+        uint8_t mask = (uint8_t)(1u << place % 8);
+        if ((message[place / 8] ^ was[place / 8]) & mask)
+            continue; /* altered already */
+        message[place / 8] ^= mask;
+        bits--;
+    }
+}
+
+/* A message with its mark, right or damaged; gives its length. */
+static size_t some_charger_message(uint8_t at[64], bool *read)
+{
+    static const uint8_t addresses[] = {0x10, 0x13, 0x16, 0x17};
+    uint8_t command = (uint8_t)(one_in(8) ? draw() : 0x11 + below(6));
+    uint16_t word = charger_word(command);
+    size_t length = 3;
+    *read = command == 0x11 || command == 0x13 ? !one_in(4) : command > 0x16 || command < 0x11 ? one_in(2) : one_in(6);
+    at[0] = 0x12;
+    at[1] = command;
+    at[2] = *read ? 0x13 : (uint8_t)(word & 0xFF);
+    at[3] = (uint8_t)(word >> 8);
+    if (!*read) {
+        at[4] = sb2_pec(bytes_of(at, 4));
+        length = 4 + below(2);
+    }
+    switch (below(24)) {
+    case 0: alter(at, length, 1 + below(3)); break;
+    case 1: *read = !*read; break;
+    case 2: length = below((uint32_t)length); break;
+    case 3: fill(at + length, 40), length += below(36); break;
+    case 4: fill(at, 64), length = below(65); break;
+    case 5: at[0] = one_in(4) ? (uint8_t)draw() : addresses[below(4)]; break;
+    case 6: at[length - 1] = (uint8_t)draw(); break;
+    default: break;
+    }
+    return length;
+}
+
+static size_t charger_room(void)
+{
+    return one_in(12) ? below(6) : one_in(12) ? below(ROOM_MOST + 1) : SB2_CHARGER_ROOM;
+}
+
+static void play_charger_transact(size_t length)
+{
+    uint8_t message[64];
+    bool read;
+    size_t message_length = some_charger_message(message, &read);
+    (void)play_charger_message(message, message_length, read, length, charger_room());
+}
+
+/* ---- its life */
+
+static uint32_t charger_gap(unsigned class)
+{
+    static const uint32_t gaps[7] = {0, 1, 999, 1000, 60000, 174999, 175000};
+    if (class == 8) /* over the wrap */
+        return 0u - charger_number(C_COUNTER_AT, 4) + below(1000);
+    return class == 7 ? 3600000u * (1 + below(1192)) + below(2000) : gaps[class];
+}
+
+/* What is measured, at times at a request or one off it. */
+static struct sb2_sample charger_measured(uint32_t counter)
+{
+    struct sb2_sample sample = {some_word(), some_current(), some_word(), counter};
+    if (one_in(3)) {
+        sample.voltage = (uint16_t)(charger_number(C_VOLTAGE_AT, 2) - 1 + below(3));
+        sample.current = (int16_t)(charger_number(C_CURRENT_AT, 2) - 1 + below(3));
+    }
+    return sample;
+}
+
+static void play_charger_time(size_t length)
+{
+    unsigned class = one_in(2) ? 3 : below(9);
+    struct sb2_sample sample = charger_measured(charger_number(C_COUNTER_AT, 4) + charger_gap(class));
+    bool served = length == SB2_CHARGER_AREA && sb2_area_charger_sound(charger_bytes());
+    play_charger_sample(sample, length);
+    if (served)
+        other[C_GAP + class]++;
+}
+
+static void play_charger_life(void)
+{
+    uint32_t counter = one_in(4) ? 0xFFFFFFFFu - below(200000) : (uint32_t)draw();
+    struct sb2_sample first = {some_word(), some_current(), some_word(), counter};
+    play_charger_set_up(first, SB2_CHARGER_AREA);
+    for (uint32_t left = 20 + below(60); left > 0; left--) {
+        if (one_in(4))
+            play_charger_time(charger_size());
+        else
+            play_charger_transact(charger_size());
+        if (one_in(3))
+            play_charger_current(charger_size());
+        if (one_in(8))
+            play_charger_read(0x13);
+    }
+    play_charger_sound(charger_size());
+}
+
+/* Both requests; an alarm and one request again, at times another alarm; then the other one. */
+static void play_charger_alarm(void)
+{
+    uint8_t first = (uint8_t)(0x14 + below(2));
+    play_charger_write(0x14, some_word() | 1);
+    play_charger_write(0x15, some_word() | 1);
+    play_charger_current(SB2_CHARGER_AREA);
+    play_charger_write(0x16, (uint16_t)(1u << (12 + below(4)) | below(0x1000)));
+    play_charger_current(SB2_CHARGER_AREA);
+    play_charger_write(first, some_word() | 1);
+    play_charger_current(SB2_CHARGER_AREA);
+    if (one_in(3))
+        play_charger_write(0x16, (uint16_t)(1u << (12 + below(4))));
+    play_charger_read(0x13);
+    play_charger_write((uint8_t)(0x29 - first), some_word() | 1);
+    play_charger_current(SB2_CHARGER_AREA);
+}
+
+/* Samples to the end of the count, past it and about it; then a request starts it again. */
+static void play_charger_silence(void)
+{
+    uint32_t counter = charger_number(C_COUNTER_AT, 4);
+    uint32_t part = below(SB2_SILENCE_MS), aim = SB2_SILENCE_MS - 2 + below(4);
+    play_charger_write(0x14, some_word());
+    play_charger_write(0x15, some_word());
+    play_charger_sample(charger_measured(counter += part), SB2_CHARGER_AREA);
+    play_charger_current(SB2_CHARGER_AREA);
+    play_charger_sample(charger_measured(counter += aim - part), SB2_CHARGER_AREA);
+    play_charger_current(SB2_CHARGER_AREA);
+    play_charger_sample(charger_measured(counter + below(2)), SB2_CHARGER_AREA);
+    play_charger_current(SB2_CHARGER_AREA);
+    play_charger_write(0x12, charger_word(0x12));
+    play_charger_write((uint8_t)(0x14 + below(2)), some_word());
+    play_charger_current(SB2_CHARGER_AREA);
+}
+
+/* A right write of five bytes, then with one to three of its bits altered: these are never taken. */
+static void play_charger_altered(void)
+{
+    uint8_t command = (uint8_t)(one_in(4) ? 0x12 : 0x14 + below(3)), message[5];
+    uint16_t word = charger_word(command);
+    for (uint32_t bits = 0; bits <= 3; bits++) {
+        const uint8_t four[4] = {0x12, command, (uint8_t)(word & 0xFF), (uint8_t)(word >> 8)};
+        memcpy(message, four, 4);
+        message[4] = sb2_pec(bytes_of(four, 4));
+        alter(message, 5, bits);
+        int answer = play_charger_message(message, 5, false, SB2_CHARGER_AREA, SB2_CHARGER_ROOM);
+        compare(answer != SB2_SERVED, bits > 0);
+        other[C_ALTERED + bits]++;
+    }
+}
+
+/* Any area that is sound; with these flags, their bits as in charger_flags. */
+static void some_charger(uint32_t flags)
+{
+    fill(charger_area, SB2_CHARGER_AREA);
+    put_charger(C_CURRENT_AT, 2, one_in(4) ? 0 : some_word());
+    put_charger(C_VOLTAGE_AT, 2, one_in(4) ? 0 : some_word());
+    for (size_t i = 0; i < 5; i++)
+        put_charger(charger_flags[i], 1, flags >> i & 1);
+    put_charger(C_COUNT_AT, 4, one_in(4) ? SB2_SILENCE_MS - below(2) : below(SB2_SILENCE_MS + 1));
+}
+
+/* The area in each entry that looks at it; it stays as it is. */
+static void play_charger_area(void)
+{
+    uint8_t kept[SB2_CHARGER_AREA];
+    memcpy(kept, charger_area, sizeof kept);
+    play_charger_sound(SB2_CHARGER_AREA);
+    play_charger_current(SB2_CHARGER_AREA);
+    play_charger_read(0x13);
+    play_charger_transact(charger_size());
+    memcpy(charger_area, kept, sizeof kept);
+    play_charger_time(charger_size());
+    memcpy(charger_area, kept, sizeof kept);
+}
+
+/* Areas with every set of flags, counts about 175,000, and one flag of each kind that is none. */
+static void play_charger_areas(void)
+{
+    const uint32_t counts[5] = {0, SB2_SILENCE_MS - 1, SB2_SILENCE_MS, SB2_SILENCE_MS + 1,
+                                SB2_SILENCE_MS + 2 + below(UINT32_MAX - SB2_SILENCE_MS - 1)};
+    const uint32_t values[4] = {0, 1, 2, 3 + below(253)};
+    uint32_t count = below(5), flag = below(5), value = below(4);
+    some_charger(below(32));
+    play_charger_area();
+    put_charger(C_COUNT_AT, 4, counts[count]);
+    play_charger_area();
+    other[C_COUNT + count]++;
+    some_charger(one_in(2) ? 5 : below(32)); /* both taken */
+    put_charger(charger_flags[flag], 1, values[value]);
+    play_charger_area();
+    other[C_FLAG + 4 * flag + value]++;
+    some_charger(one_in(2) ? 5 : below(32));
+    for (uint32_t left = 2; left > 0; left--)
+        play_charger_write((uint8_t)(one_in(2) ? 0x12 : 0x16), charger_word((uint8_t)(one_in(2) ? 0x12 : 0x16)));
+    play_charger_set_up(charger_measured((uint32_t)draw()), charger_size());
+}
+
+/* ---- joined to a pack */
+
+/* Every message of a broadcast comes to the charger as a write. */
+static void deliver(const uint8_t *bytes, size_t length, size_t each)
+{
+    for (size_t at = 0; at < length; at += each) {
+        uint16_t before = charger_flow();
+        int answer = play_charger_message(bytes + at, each, false, SB2_CHARGER_AREA, SB2_CHARGER_ROOM);
+        bool to_charger = bytes[at] == 0x12, alarm = bytes[at + 1] == 0x16;
+        uint16_t after = charger_flow();
+        compare((uint64_t)answer, to_charger ? SB2_SERVED : SB2_NOT_FOR_PACK);
+        other[C_DELIVERED + (each == 4 ? 4u : 0u) + (to_charger ? bytes[at + 1] - 0x14u : 3u)]++;
+        if (before > 0 && after == 0)
+            other[C_STOPPED + !alarm]++;
+        if (before == 0 && after > 0)
+            other[C_STARTED]++;
+    }
+}
+
+/* A sample for both: what flows is what the charger gives, at times any; the pack is hot or not, and gets full. */
+static bool joined_sample(struct sb2_sample *sample, uint16_t limit, bool plain)
+{
+    static const uint32_t steps[] = {1000, 1000, 1000, 9000, 10000, 15000, 29999, 30000};
+    uint8_t sent[SB2_BROADCAST_ROOM];
+    sample->counter += one_in(8) ? some_elapsed() : steps[below(8)];
+    sample->current = one_in(8) ? some_current() : (int16_t)charger_flow();
+    if (one_in(3))
+        sample->temperature = (uint16_t)(limit + below(2));
+    if (!play_given_sample(*sample, SNATCHBLOCK_AREA, SB2_BROADCAST_ROOM))
+        return false;
+    size_t length = sent_bytes;
+    memcpy(sent, room.s, length);
+    play_charger_sample(*sample, SB2_CHARGER_AREA);
+    deliver(sent, length, plain ? 4 : 5);
+    play_charger_current(SB2_CHARGER_AREA);
+    return true;
+}
+
+static void play_joined(void)
+{
+    static const uint8_t alarm_mode[4] = {0x16, 0x03, 0x00, 0x20};
+    struct sb2_set_up in = some_set_up(true);
+    bool held = one_in(2); /* the host keeps alarms from going */
+    in.charging_current = (uint16_t)(1 + below(32767));
+    in.charging_voltage |= 1;
+    in.temperature_limit = (uint16_t)(1 + below(65534));
+    play_given_set_up(in, SNATCHBLOCK_AREA);
+    play_charger_set_up(in.first, SB2_CHARGER_AREA);
+    struct sb2_sample sample = in.first;
+    for (uint32_t left = 5 + below(30); left > 0; left--) {
+        if (held)
+            play_message_in(SB2_REPLY_ROOM, alarm_mode, 4, false, SNATCHBLOCK_AREA);
+        if (!joined_sample(&sample, in.temperature_limit, in.plain))
+            return;
+    }
+}
+
+/* Eight commands in their turn, read and written. */
+static void play_charger_commands(void)
+{
+    static uint8_t next;
+    for (int i = 0; i < 8; i++, next++) {
+        play_charger_read(next);
+        play_charger_write(next, charger_word(next));
+    }
+}
+
+/* An area of another size in each entry. */
+static void play_charger_sizes(void)
+{
+    static const size_t sizes[] = {0, SB2_CHARGER_AREA - 1, SB2_CHARGER_AREA + 1, SNATCHBLOCK_AREA};
+    size_t kind = below(5);
+    size_t size = kind < 4 ? sizes[kind] : SB2_CHARGER_AREA + 2 + below(AREA_MOST - SB2_CHARGER_AREA - 1);
+    play_charger_set_up(charger_measured(0), size);
+    play_charger_sound(size);
+    play_charger_current(size);
+    play_charger_time(size);
+    play_charger_transact(size);
+}
+
+static void play_charger(void)
+{
+    for (int i = 0; i < 2; i++) {
+        play_charger_life();
+        play_charger_alarm();
+        play_charger_silence();
+        play_charger_commands();
+        play_charger_sizes();
+    }
+    for (int i = 0; i < 8; i++) {
+        play_charger_areas();
+        play_charger_altered();
+    }
+    play_joined();
+}
+
 /* ---- all of it */
 
 static void play(void)
 {
-    switch (below(16)) {
+    switch (below(17)) {
+    case 16: play_charger(); break;
     case 15: play_cut_off(); break;
     case 14: play_choices(); break;
     case 13: case 12: play_learning(); break;
@@ -2180,6 +2796,20 @@ static bool status_as_said(void)
     if (!as_said)
         printf("  status bit 15, 13, 10 or 3 set, or 7 clear: WRONG\n");
     return as_said;
+}
+
+/* The same of the charger: bits that it never sets, and those that it never clears. */
+static bool charger_status_as_said(void)
+{
+    static const unsigned clear[] = {1, 5, 6, 7, 8, 9, 10, 11, 13}, set[] = {4, 14, 15};
+    uint64_t wrong = 0;
+    for (size_t i = 0; i < sizeof clear / sizeof *clear; i++)
+        wrong += other[C_STATUS_SET + clear[i]];
+    for (size_t i = 0; i < sizeof set / sizeof *set; i++)
+        wrong += other[C_STATUS_CLEAR + set[i]];
+    if (wrong > 0)
+        printf("  charger's status bit 1, 5 to 11 or 13 set, or 4, 14 or 15 clear: WRONG\n");
+    return wrong == 0;
 }
 
 /* Prints each class; false if one never came up. */
@@ -2305,10 +2935,47 @@ static bool tally(void)
         {"served in both, none to four messages", DUE_SERVED, DUE_SERVED + 4},
         {"messages right; 1, 2, 3 bits altered: wrong", ALTERED, ALTERED + 3},
         {"flags of plain: 0, 1, 2, others", PLAIN_FLAG, PLAIN_FLAG + 3},
+        {"charger: reads of 11 and 13", C_READ, C_READ + 1},
+        {"writes of 12, 14, 15, 16, without PEC and with it", C_WRITE, C_WRITE + 7},
+        {"status bit 0 set", C_STATUS_SET, C_STATUS_SET},
+        {"2 to 4 set", C_STATUS_SET + 2, C_STATUS_SET + 4},
+        {"12 set", C_STATUS_SET + 12, C_STATUS_SET + 12},
+        {"14 and 15 set", C_STATUS_SET + 14, C_STATUS_SET + 15},
+        {"0 to 3 clear", C_STATUS_CLEAR, C_STATUS_CLEAR + 3},
+        {"5 to 13 clear", C_STATUS_CLEAR + 5, C_STATUS_CLEAR + 13},
+        {"current flows", C_FLOWS, C_FLOWS},
+        {"none: no ChargingCurrent, 0; no voltage, 0", C_ZERO, C_ZERO + 3},
+        {"either is awaited; inhibited; 175,000 ms", C_ZERO + 4, C_ZERO + 7},
+        {"each bit of 12 set", C_MODE_SET, C_MODE_SET + 15},
+        {"each clear", C_MODE_CLEAR, C_MODE_CLEAR + 15},
+        {"RESET_TO_ZERO, and inhibited: none taken, one, both", C_RESET, C_RESET + 7},
+        {"POR_RESET: inhibited, awaiting, both, beside 0 and 3", C_POWER_ON, C_POWER_ON + 3},
+        {"each bit of 16 set", C_ALARM_BIT, C_ALARM_BIT + 15},
+        {"none of 15 to 12", C_ALARM_NONE, C_ALARM_NONE},
+        {"an alarm, each taken and each awaited", C_ALARM_AT, C_ALARM_AT + 11},
+        {"14, 15: awaited are none, it, the other, both", C_REQUEST, C_REQUEST + 7},
+        {"14 ends an alarm behind 15, 15 behind 14: current", C_BACK, C_BACK + 1},
+        {"14, 15 at 175,000 ms", C_AGAIN, C_AGAIN + 1},
+        {"gaps of 0, 1, 999, 1,000, 60,000, 174,999, 175,000", C_GAP, C_GAP + 6},
+        {"of hours, over the wrap", C_GAP + 7, C_GAP + 8},
+        {"counts to 174,999, to 175,000, past it, at it", C_COUNT_TO, C_COUNT_TO + 3},
+        {"areas of 0, 174,999, 175,000, 175,001, more", C_COUNT, C_COUNT + 4},
+        {"its five flags: 0, 1, 2, others", C_FLAG, C_FLAG + 19},
+        {"areas of 0, 22, 24, 330, other bytes in each entry", C_LENGTH, C_LENGTH + 24},
+        {"rooms of 0, 1, 2, 3, more, reads and writes", C_ROOM, C_ROOM + 9},
+        {"each of 256 commands read", C_COMMAND, C_COMMAND + 255},
+        {"and written", C_COMMAND + 256, C_COMMAND + 511},
+        {"3: no bytes, 10, 13, 16, others", C_ADDRESS, C_ADDRESS + 4},
+        {"4: a read too long or short, or not 13; a write", C_FORM, C_FORM + 2},
+        {"1, 2, 3, 4, 5, 6, 8: each two at once", C_BOTH, C_BOTH + 14},
+        {"of these 4 or 5 with 6 or 8", C_BOTH + 16, C_BOTH + 19},
+        {"writes right; 1, 2, 3 bits altered: not taken", C_ALTERED, C_ALTERED + 3},
+        {"broadcast 14, 15, 16, 10 16 delivered, plain too", C_DELIVERED, C_DELIVERED + 7},
+        {"the pack's alarm stops it, its words do, start it", C_STOPPED, C_STARTED},
     };
     for (size_t i = 0; i < sizeof lines / sizeof *lines; i++)
         all = count_other(lines[i].name, lines[i].first, lines[i].last) && all;
-    return status_as_said() && all;
+    return status_as_said() && charger_status_as_said() && all;
 }
 
 static void end_run(void)

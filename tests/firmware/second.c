@@ -1,6 +1,6 @@
 /* The functions of snatchblock.h that the firmware's example calls, by the second program: the example linked with this
- * in place of the proved library has its lines from another origin. With DAMAGE one bit of a sample's last broadcast is
- * altered. */
+ * in place of the proved library has its lines from another origin. With DAMAGE one bit is altered in each broadcast to
+ * that address. */
 #include "snatchblock.h"
 #include "../../second/snatchblock2.h"
 
@@ -43,8 +43,10 @@ uint32_t snatchblock_sample(uint8_t *area, size_t area_length, uint16_t voltage,
     size_t length = 0;
     int answer = sb2_area_take_sample(area, area_length, &sample, room, room_length, &length);
 #ifdef DAMAGE
-    if (length > 0)
-        room[length - 1] ^= 0x20;
+    size_t each = snatchblock_message_length(area);
+    for (size_t at = 0; at < length; at += each)
+        if (room[at] == DAMAGE)
+            room[at + each - 1] ^= 0x20;
 #endif
     return packed(answer, length);
 }
@@ -69,4 +71,35 @@ uint32_t snatchblock_exchange_check(const uint8_t *bytes, size_t length)
     bool accepted = false;
     int answer = sb2_check_exchange(of(bytes, length), &accepted);
     return packed(answer, accepted);
+}
+
+/* ---- the charger */
+
+uint32_t snatchblock_charger_set_up(uint8_t *area, size_t area_length, uint16_t voltage, int16_t current,
+                                    uint16_t temperature, uint32_t counter)
+{
+    const struct sb2_sample first = {.voltage = voltage, .current = current, .temperature = temperature, .counter = counter};
+    return packed(sb2_area_charger_set_up(area, area_length, &first), 0);
+}
+
+uint32_t snatchblock_charger_sample(uint8_t *area, size_t area_length, uint16_t voltage, int16_t current,
+                                    uint16_t temperature, uint32_t counter)
+{
+    const struct sb2_sample sample = {.voltage = voltage, .current = current, .temperature = temperature, .counter = counter};
+    return packed(sb2_area_charger_sample(area, area_length, &sample), 0);
+}
+
+uint32_t snatchblock_charger_transact(uint8_t *area, size_t area_length, bool read, const uint8_t *bytes,
+                                      size_t bytes_length, uint8_t *room, size_t room_length)
+{
+    size_t length = 0;
+    int answer = sb2_area_charger_transact(area, area_length, read, of(bytes, bytes_length), room, room_length, &length);
+    return packed(answer, length);
+}
+
+uint32_t snatchblock_charger_current(const uint8_t *area, size_t area_length)
+{
+    uint16_t current = 0;
+    int answer = sb2_area_charger_current(of(area, area_length), &current);
+    return packed(answer, current);
 }

@@ -14,7 +14,7 @@ words="-std=c11 -Wall -Wextra -Werror -O2 $checks"
 
 mkdir -p "$out" || exit 2
 parts=''
-for part in pec key sheet capture pack clock bus area shelf; do parts="$parts $root/second/$part.c"; done
+for part in pec key sheet capture pack clock bus area shelf charger; do parts="$parts $root/second/$part.c"; done
 # shellcheck disable=SC2086
 "$cc" $words -o "$out/self" "$here/self.c" $parts || exit 2
 # shellcheck disable=SC2086

@@ -1,7 +1,7 @@
 /* Holds the second program to published facts: document 01's worked examples
  * and tables, both packets of source document 001, the check word of CRC-8 and
  * the values that 002 works out. Then to properties that document 01 states, and
- * to figures worked by hand from the words of requests R-1, R-2 and R-4 to R-6. */
+ * to figures worked by hand from the words of requests R-1, R-2 and R-4 to R-7. */
 #include "../../second/snatchblock2.h"
 
 #include <stdio.h>
@@ -2117,6 +2117,693 @@ static void shelf(void)
     shelf_in_bytes();
 }
 
+/* ---- request R-7 */
+
+static bool same_sample(const struct sb2_sample *a, const struct sb2_sample *b)
+{
+    return a->voltage == b->voltage && a->current == b->current && a->temperature == b->temperature &&
+           a->counter == b->counter;
+}
+
+static bool same_charger(const struct sb2_charger *a, const struct sb2_charger *b)
+{
+    return a->facts == b->facts && a->current == b->current && a->voltage == b->voltage && a->silence == b->silence &&
+           same_sample(&a->latest, &b->latest);
+}
+
+/* Just plugged in: the pack's 15,000 mV and 1,200 mA are measured. */
+static struct sb2_charger plugged(void)
+{
+    struct sb2_charger c;
+    const struct sb2_sample first = {15000, 1200, 2981, 1000};
+    memset(&c, 0xA5, sizeof c);
+    sb2_charger_set_up(&c, &first);
+    CHECK(sb2_charger_sound(&c), true);
+    return c;
+}
+
+/* Answer of a transaction in a watched room. Only a served write may change the charger, only a served read the room. */
+static int charger_hears(struct sb2_charger *c, bool read, struct sb2_bytes message, size_t room_length,
+                         uint8_t reply[3])
+{
+    const struct sb2_charger before = *c;
+    uint8_t room[16];
+    size_t length;
+    memset(room, 0xA5, sizeof room);
+    int answer = sb2_charger_transact(c, read, message, room + 4, room_length, &length);
+    if (length != (answer == 0 && read ? 3 : 0))
+        CHECK(length, answer == 0 && read ? 3 : 0);
+    for (size_t i = 0; i < sizeof room; i++)
+        if ((i < 4 || i >= 4 + length) && room[i] != 0xA5)
+            CHECK(room[i], 0xA5);
+    if ((answer != 0 || read) && !same_charger(&before, c))
+        CHECK(answer, -1);
+    memcpy(reply, room + 4, 3);
+    return answer;
+}
+
+static int charger_answers(struct sb2_charger *c, bool read, struct sb2_bytes message)
+{
+    uint8_t reply[3];
+    return charger_hears(c, read, message, 3, reply);
+}
+
+static int tell(struct sb2_charger *c, uint8_t command, unsigned value)
+{
+    uint8_t message[5] = {0x12, command, (uint8_t)value, (uint8_t)(value >> 8), 0};
+    message[4] = sb2_pec(bytes(message, 4));
+    return charger_answers(c, false, bytes(message, 5));
+}
+
+/* The word of ChargerStatus. */
+static long told(struct sb2_charger *c)
+{
+    uint8_t reply[3];
+    CHECK(charger_hears(c, true, BYTES(0x12, 0x13, 0x13), 3, reply), 0);
+    CHECK(sb2_pec(BYTES(0x12, 0x13, 0x13, reply[0], reply[1])), reply[2]);
+    return reply[0] | (long)reply[1] << 8;
+}
+
+/* What it gives; the answer must be 0. */
+static long gives(const struct sb2_charger *c)
+{
+    uint16_t current = 1;
+    CHECK(sb2_charger_current(c, &current), 0);
+    return current;
+}
+
+/* A sample so much later. */
+static void measures(struct sb2_charger *c, uint16_t voltage, int16_t current, uint32_t ms)
+{
+    const struct sb2_sample later = {voltage, current, 2981, c->latest.counter + ms};
+    CHECK(sb2_charger_sample(c, &later), 0);
+    CHECK(same_sample(&c->latest, &later), true);
+    CHECK(sb2_charger_sound(c), true);
+}
+
+/* Both requests of the firmware's pack, 1,500 mA and 16,800 mV. */
+static struct sb2_charger charging(void)
+{
+    struct sb2_charger c = plugged();
+    CHECK(tell(&c, 0x14, 1500), 0);
+    CHECK(tell(&c, 0x15, 16800), 0);
+    CHECK(gives(&c), 1500);
+    return c;
+}
+
+/* The PECs are of a long division done elsewhere, bit by bit. */
+static void charger_bytes(void)
+{
+    struct sb2_charger c = plugged();
+    uint8_t reply[3];
+    CHECK(charger_hears(&c, true, BYTES(0x12, 0x11, 0x13), 3, reply), 0);
+    CHECK(memcmp(reply, "\x03\x00\xA7", 3), 0);
+    CHECK(charger_hears(&c, true, BYTES(0x12, 0x13, 0x13), 3, reply), 0);
+    CHECK(memcmp(reply, "\x10\xC0\xAD", 3), 0);
+    CHECK(charger_answers(&c, false, BYTES(0x12, 0x14, 0xDC, 0x05, 0x1F)), 0);
+    CHECK(charger_answers(&c, false, BYTES(0x12, 0x15, 0xA0, 0x41)), 0); /* in plain */
+    CHECK(gives(&c), 1500);
+    CHECK(charger_answers(&c, false, BYTES(0x12, 0x16, 0xAF, 0x40, 0x88)), 0);
+    CHECK(charger_answers(&c, false, BYTES(0x12, 0x12, 0x01, 0x00, 0x2A)), 0);
+    CHECK(charger_hears(&c, true, BYTES(0x12, 0x13, 0x13), 8, reply), 0);
+    CHECK(memcmp(reply, "\x1D\xD0\x34", 3), 0); /* every bit that can be: all of 0, 2, 3, 4, 12, 14, 15 */
+}
+
+/* 000, table 4: 14, 15 and 4 stand; each other bit comes and goes with what it tells. */
+static void charger_status(void)
+{
+    struct sb2_charger c = plugged();
+    CHECK(told(&c), 0xC010);
+    measures(&c, 0, -32768, 1000); /* nothing was asked for, so nothing is missed */
+    CHECK(told(&c), 0xC010);
+    CHECK(tell(&c, 0x15, 16800), 0);
+    CHECK(told(&c), 0xC014);
+    measures(&c, 16799, 0, 1000);
+    CHECK(told(&c), 0xC014);
+    measures(&c, 16800, 0, 1000);
+    CHECK(told(&c), 0xC010);
+    CHECK(tell(&c, 0x15, 65535), 0);
+    measures(&c, 65535, 0, 1000);
+    CHECK(told(&c), 0xC010);
+    CHECK(tell(&c, 0x14, 1500), 0);
+    CHECK(told(&c), 0xC018);
+    measures(&c, 65534, 1499, 1000);
+    CHECK(told(&c), 0xC01C);
+    measures(&c, 65535, 1500, 1000);
+    CHECK(told(&c), 0xC010);
+    CHECK(tell(&c, 0x14, 0), 0);
+    measures(&c, 65535, 0, 1000);
+    CHECK(told(&c), 0xC010);
+    measures(&c, 65535, -1, 1000); /* a discharge is below a request of 0 too */
+    CHECK(told(&c), 0xC018);
+    CHECK(tell(&c, 0x14, 32767), 0);
+    measures(&c, 65535, 32767, 1000);
+    CHECK(told(&c), 0xC010);
+    CHECK(tell(&c, 0x14, 32768), 0); /* more than a sample can show; as a signed word it would be below */
+    CHECK(told(&c), 0xC018);
+    CHECK(tell(&c, 0x14, 65535), 0);
+    CHECK(told(&c), 0xC018);
+    CHECK(tell(&c, 0x12, 0x0001), 0);
+    CHECK(told(&c), 0xC019);
+    CHECK(tell(&c, 0x16, 0x8000), 0);
+    CHECK(told(&c), 0xD019);
+    CHECK(tell(&c, 0x12, 0x0000), 0);
+    CHECK(told(&c), 0xD018);
+}
+
+/* 000, table 3, every word from a charger with both requests, both missed, and 3,000 ms of silence. */
+static void charger_mode(void)
+{
+    struct sb2_charger start = charging();
+    measures(&start, 15000, 1200, 3000);
+    CHECK(told(&start), 0xC01C);
+    for (unsigned value = 0; value < 65536; value++) {
+        struct sb2_charger c = start;
+        const bool reset = value & 4, zero = value & 8, inhibit = value & 1;
+        CHECK(tell(&c, 0x12, value), 0);
+        CHECK(told(&c), reset ? 0xC010 : 0xC010 + (inhibit ? 1 : 0) + (zero ? 0 : 12));
+        CHECK(gives(&c), reset || zero || inhibit ? 0 : 1500);
+        CHECK(c.silence, 3000);
+        CHECK(same_sample(&c.latest, &start.latest), true);
+    }
+}
+
+/* Inhibited, the requests are kept and taken; a reset takes the inhibition with it, and the other bits of its word. */
+static void charger_inhibited(void)
+{
+    struct sb2_charger c = charging();
+    CHECK(tell(&c, 0x12, 0xFFF3), 0); /* but for bits 2 and 3 all */
+    CHECK(gives(&c), 0);
+    CHECK(tell(&c, 0x12, 0xFFF2), 0);
+    CHECK(gives(&c), 1500);
+    CHECK(tell(&c, 0x12, 1), 0);
+    CHECK(tell(&c, 0x14, 800), 0);
+    CHECK(tell(&c, 0x15, 16000), 0);
+    CHECK(gives(&c), 0);
+    CHECK(told(&c), 0xC015);
+    CHECK(tell(&c, 0x12, 0), 0);
+    CHECK(gives(&c), 800);
+    CHECK(tell(&c, 0x12, 0x0005), 0);
+    CHECK(told(&c), 0xC010); /* neither inhibited nor asked for anything */
+    CHECK(tell(&c, 0x14, 900), 0);
+    CHECK(gives(&c), 0); /* the voltage of before is gone too */
+    CHECK(tell(&c, 0x15, 16000), 0);
+    CHECK(gives(&c), 900);
+}
+
+/* Both words become 0, whether or not it is inhibited; that they came, and that they are awaited, stays. */
+static void charger_to_zero(void)
+{
+    struct sb2_charger c = charging();
+    CHECK(tell(&c, 0x12, 0x0009), 0);
+    CHECK(told(&c), 0xC011);
+    measures(&c, 0, -1, 1000);
+    CHECK(told(&c), 0xC019); /* 0 mA were asked for, and −1 are less */
+    CHECK(tell(&c, 0x12, 0x0000), 0);
+    CHECK(gives(&c), 0);
+    CHECK(tell(&c, 0x14, 700), 0);
+    CHECK(gives(&c), 0); /* the voltage is 0 yet */
+    CHECK(tell(&c, 0x15, 1), 0);
+    CHECK(gives(&c), 700);
+    CHECK(tell(&c, 0x16, 0x4000), 0);
+    CHECK(tell(&c, 0x12, 0x0008), 0);
+    CHECK(told(&c), 0xD018);
+    c = plugged();
+    CHECK(tell(&c, 0x12, 0x0008), 0);
+    measures(&c, 0, -1, 1000);
+    CHECK(told(&c), 0xC010);
+}
+
+/* Each bit of AlarmWarning: 15 to 12 stop the charger, the other twelve neither stop it nor let it on. */
+static void charger_alarm_bits(void)
+{
+    for (unsigned bit = 0; bit < 16; bit++) {
+        struct sb2_charger c = charging();
+        const bool stops = bit >= 12;
+        measures(&c, 15000, 1200, 1000);
+        CHECK(tell(&c, 0x16, 1u << bit), 0);
+        CHECK(told(&c), stops ? 0xD01C : 0xC01C);
+        CHECK(gives(&c), stops ? 0 : 1500);
+        CHECK(c.silence, 1000); /* an alarm is no request */
+        CHECK(tell(&c, 0x16, 0x8000), 0);
+        CHECK(tell(&c, 0x16, 0x0FFF), 0);
+        CHECK(tell(&c, 0x16, 0), 0);
+        CHECK(told(&c), 0xD01C);
+    }
+}
+
+/* Both requests must come after the latest alarm, in either order, alike or not. */
+static void charger_after_alarm(void)
+{
+    for (unsigned first = 0; first < 2; first++) {
+        const uint8_t one = first ? 0x15 : 0x14, other = first ? 0x14 : 0x15;
+        struct sb2_charger c = charging();
+        CHECK(tell(&c, 0x16, 0x5000), 0);
+        for (unsigned times = 0; times < 3; times++) {
+            CHECK(tell(&c, one, 12000), 0);
+            CHECK(told(&c), first ? 0xD018 : 0xD01C); /* 12,000 mV are met, 12,000 mA aren't */
+            CHECK(gives(&c), 0);
+        }
+        CHECK(tell(&c, 0x16, 0x1000), 0); /* an alarm between the two */
+        CHECK(tell(&c, other, 12000), 0);
+        CHECK(told(&c) & 0x1000, 0x1000);
+        CHECK(gives(&c), 0);
+        CHECK(tell(&c, one, 12000), 0);
+        CHECK(told(&c) & 0x1000, 0);
+        CHECK(gives(&c), 12000);
+        CHECK(tell(&c, 0x16, 0x2000), 0);
+        CHECK(tell(&c, 0x12, 0x0001), 0);
+        CHECK(told(&c) & 0x1001, 0x1001); /* a mode alone doesn't end it */
+        CHECK(tell(&c, 0x12, 0x0004), 0);
+        CHECK(told(&c), 0xC010);
+    }
+    struct sb2_charger c = plugged(); /* an alarm before any request */
+    CHECK(tell(&c, 0x16, 0x4000), 0);
+    CHECK(told(&c), 0xD010);
+    CHECK(tell(&c, 0x15, 16800), 0);
+    CHECK(told(&c), 0xD014);
+    CHECK(tell(&c, 0x14, 300), 0);
+    CHECK(told(&c), 0xC014);
+    CHECK(gives(&c), 300);
+}
+
+/* 0 before any; with a voltage of 0 or none; else the last one taken, whatever is measured. */
+static void charger_current(void)
+{
+    struct sb2_charger c = plugged();
+    CHECK(gives(&c), 0);
+    CHECK(tell(&c, 0x14, 1500), 0);
+    CHECK(gives(&c), 0);
+    CHECK(tell(&c, 0x15, 0), 0);
+    CHECK(gives(&c), 0);
+    CHECK(tell(&c, 0x15, 1), 0);
+    CHECK(gives(&c), 1500);
+    CHECK(tell(&c, 0x14, 65535), 0);
+    CHECK(gives(&c), 65535);
+    measures(&c, 0, -32768, 0);
+    CHECK(gives(&c), 65535);
+    CHECK(tell(&c, 0x14, 0), 0);
+    CHECK(gives(&c), 0);
+    c = plugged();
+    CHECK(tell(&c, 0x15, 16800), 0);
+    CHECK(gives(&c), 0);
+    CHECK(tell(&c, 0x14, 1), 0);
+    CHECK(gives(&c), 1);
+}
+
+/* 175 s with neither request: at 174,999 ms it still gives, at 175,000 no more, and there the count stands. */
+static void charger_silence(void)
+{
+    struct sb2_charger c = charging();
+    measures(&c, 15000, 1500, 174999);
+    CHECK(gives(&c), 1500);
+    CHECK(tell(&c, 0x16, 0x0B00), 0); /* neither these */
+    CHECK(tell(&c, 0x12, 0x0000), 0);
+    CHECK(told(&c), 0xC014);
+    CHECK(c.silence, 174999);
+    measures(&c, 15000, 1500, 0);
+    CHECK(gives(&c), 1500);
+    measures(&c, 15000, 1500, 1);
+    CHECK(gives(&c), 0);
+    CHECK(told(&c), 0xC014); /* it tells nothing of it */
+    CHECK(c.silence, 175000);
+    measures(&c, 15000, 0, 1);
+    measures(&c, 15000, 0, 4294967295u);
+    CHECK(c.silence, 175000);
+    CHECK(tell(&c, 0x12, 0x0004), 0);
+    CHECK(c.silence, 175000); /* a reset doesn't touch it */
+    CHECK(tell(&c, 0x15, 16800), 0);
+    CHECK(c.silence, 0);
+    CHECK(tell(&c, 0x14, 200), 0);
+    CHECK(gives(&c), 200);
+    for (unsigned which = 0; which < 2; which++) { /* either request alone is enough, the same one again too */
+        c = charging();
+        for (unsigned i = 0; i < 10; i++) {
+            measures(&c, 15000, 1500, 174000);
+            CHECK(gives(&c), 1500);
+            CHECK(tell(&c, which ? 0x15 : 0x14, which ? 16800 : 1500), 0);
+            CHECK(c.silence, 0);
+        }
+        measures(&c, 15000, 1500, 175001);
+        CHECK(gives(&c), 0);
+        CHECK(c.silence, 175000);
+        CHECK(tell(&c, which ? 0x15 : 0x14, which ? 16800 : 1500), 0);
+        CHECK(gives(&c), 1500); /* what was asked for before counts again */
+    }
+}
+
+/* Across the wrap 4,294,967,290 to 4 are 10 ms; from a count so near the end too. Set-up's counter is the first. */
+static void charger_counter(void)
+{
+    struct sb2_charger c;
+    const struct sb2_sample first = {0, 0, 0, 4294967290u}, second = {1, 2, 3, 4}, third = {1, 2, 3, 3};
+    sb2_charger_set_up(&c, &first);
+    CHECK(sb2_charger_sample(&c, &second), 0);
+    CHECK(c.silence, 10);
+    CHECK(sb2_charger_sample(&c, &second), 0);
+    CHECK(c.silence, 10);
+    CHECK(sb2_charger_sample(&c, &third), 0); /* 4,294,967,295 ms later */
+    CHECK(c.silence, 175000);
+    for (uint32_t silence = 174985; silence <= 175000; silence++) {
+        c.silence = silence;
+        c.latest = first;
+        CHECK(sb2_charger_sample(&c, &second), 0);
+        CHECK(c.silence, silence <= 174990 ? silence + 10 : 175000);
+    }
+}
+
+/* Above 175,000 it isn't sound: 1 before all else, nothing changed, no current. */
+static void charger_not_sound(void)
+{
+    static const uint32_t counts[] = {175001, 175002, 0x80000000u, 4294967295u};
+    const struct sb2_sample later = {1, 2, 3, 4};
+    for (size_t i = 0; i < 4; i++) {
+        struct sb2_charger c = charging();
+        c.silence = 175000;
+        CHECK(sb2_charger_sound(&c), true);
+        c.silence = counts[i];
+        const struct sb2_charger before = c;
+        uint16_t current = 1;
+        uint8_t reply[3];
+        CHECK(sb2_charger_sound(&c), false);
+        CHECK(sb2_charger_current(&c, &current), 1);
+        CHECK(current, 0);
+        CHECK(sb2_charger_sample(&c, &later), 1);
+        CHECK(same_charger(&before, &c), true);
+        CHECK(charger_hears(&c, true, BYTES(0x12, 0x13, 0x13), 3, reply), 1);
+        CHECK(charger_hears(&c, false, nothing, 0, reply), 1);
+        CHECK(tell(&c, 0x14, 1500), 1);
+        CHECK(same_charger(&before, &c), true);
+    }
+}
+
+/* 2 under 3 bytes of room, for a write as for a read, before 3. */
+static void charger_rooms(void)
+{
+    struct sb2_charger c = charging();
+    uint8_t reply[3];
+    for (size_t room_length = 0; room_length <= 8; room_length++) {
+        const int wanted = room_length < 3 ? 2 : 0;
+        CHECK(charger_hears(&c, true, BYTES(0x12, 0x11, 0x13), room_length, reply), wanted);
+        CHECK(memcmp(reply, "\x03\x00\xA7", 3) == 0, wanted == 0);
+        CHECK(charger_hears(&c, false, BYTES(0x12, 0x14, 0x01, 0x00), room_length, reply), wanted);
+        CHECK(gives(&c), room_length < 3 ? 1500 : 1);
+        CHECK(charger_hears(&c, false, nothing, room_length, reply), room_length < 3 ? 2 : 3);
+        CHECK(charger_hears(&c, true, BYTES(0x16, 0x11, 0x13), room_length, reply), room_length < 3 ? 2 : 3);
+    }
+}
+
+/* Every first byte but 12 is 3, in whatever form; every size of either mark but those it has is 4, before 5, 6 and 8. */
+static void charger_forms(void)
+{
+    struct sb2_charger c = charging();
+    uint8_t message[40] = {0};
+    CHECK(charger_answers(&c, true, nothing), 3);
+    for (unsigned first = 0; first < 256; first++)
+        for (size_t length = 1; length <= 6; length++) {
+            const uint8_t sent[6] = {(uint8_t)first, 0x14, 0x13, 0, 0, 0};
+            if (first == 0x12)
+                continue;
+            CHECK(charger_answers(&c, true, bytes(sent, length)), 3);
+            CHECK(charger_answers(&c, false, bytes(sent, length)), 3);
+        }
+    for (size_t length = 1; length <= sizeof message; length++) {
+        memcpy(message, "\x12\x11\x13", 3);
+        CHECK(charger_answers(&c, true, bytes(message, length)), length == 3 ? 0 : 4);
+        CHECK(charger_answers(&c, false, bytes(message, length)), length == 4 ? 8 : length == 5 ? 5 : 4);
+    }
+    for (unsigned third = 0; third < 256; third++) {
+        CHECK(charger_answers(&c, true, BYTES(0x12, 0x13, (uint8_t)third)), third == 0x13 ? 0 : 4);
+        CHECK(charger_answers(&c, true, BYTES(0x12, 0x99, (uint8_t)third)), third == 0x13 ? 6 : 4);
+    }
+    CHECK(charger_answers(&c, true, BYTES(0x12, 0x14, 0xDC, 0x05, 0x1F)), 4); /* a right write with the wrong mark */
+    CHECK(charger_answers(&c, false, BYTES(0x12, 0x13, 0x13)), 4);
+}
+
+/* Each command, read and written, with a right PEC, a wrong one and none. */
+static void charger_commands(void)
+{
+    for (unsigned command = 0; command < 256; command++) {
+        const uint8_t named = (uint8_t)command;
+        const bool known = command >= 0x11 && command <= 0x16, shown = command == 0x11 || command == 0x13;
+        struct sb2_charger c = plugged();
+        uint8_t message[5] = {0x12, named, 0x34, 0x12, 0};
+        CHECK(charger_answers(&c, true, BYTES(0x12, named, 0x13)), !known ? 6 : shown ? 0 : 8);
+        CHECK(charger_answers(&c, false, bytes(message, 4)), !known ? 6 : shown ? 8 : 0);
+        c = plugged();
+        message[4] = (uint8_t)(sb2_pec(bytes(message, 4)) ^ 0x01);
+        CHECK(charger_answers(&c, false, bytes(message, 5)), 5);
+        message[4] ^= 0x01;
+        CHECK(charger_answers(&c, false, bytes(message, 5)), !known ? 6 : shown ? 8 : 0);
+        CHECK(c.current, command == 0x14 ? 0x1234 : 0);
+        CHECK(c.voltage, command == 0x15 ? 0x1234 : 0);
+        CHECK(told(&c), command == 0x14 ? 0xC018 : command == 0x16 ? 0xD010 : 0xC010); /* 1234 is 4,660, and 12 a reset */
+    }
+}
+
+/* A right five-byte write with one to three bits turned is refused; with four, those of the divisor, it is served. */
+static void charger_turned(void)
+{
+    static const uint8_t messages[4][4] = {
+        {0x12, 0x12, 0x05, 0x00}, {0x12, 0x14, 0xDC, 0x05}, {0x12, 0x15, 0xA0, 0x41}, {0x12, 0x16, 0xAF, 0x40}};
+    unsigned served = 0, tried = 0;
+    struct sb2_charger c = charging();
+    measures(&c, 15000, 1200, 5000); /* so that every one of the four would change it */
+    CHECK(tell(&c, 0x14, 1400), 0);
+    CHECK(tell(&c, 0x15, 16700), 0);
+    measures(&c, 15000, 1200, 5000);
+    const struct sb2_charger before = c;
+    for (unsigned n = 0; n < 4 * 40 * 40 * 40; n++) {
+        unsigned i = n % 40, j = n / 40 % 40, k = n / 1600 % 40;
+        uint8_t turned[5];
+        if (j < i || k < j || (i == j && j < k)) /* i = j = k turns one bit, j = k two */
+            continue;
+        memcpy(turned, messages[n / 64000], 4);
+        turned[4] = sb2_pec(bytes(turned, 4));
+        turned[i / 8] ^= (uint8_t)(1u << i % 8);
+        if (j != i)
+            turned[j / 8] ^= (uint8_t)(1u << j % 8);
+        if (k != j)
+            turned[k / 8] ^= (uint8_t)(1u << k % 8);
+        served += charger_answers(&c, false, bytes(turned, 5)) == 0;
+        tried++;
+    }
+    CHECK(tried, 4 * (40 + 780 + 9880));
+    CHECK(served, 0);
+    CHECK(same_charger(&before, &c), true);
+    CHECK(charger_answers(&c, false, BYTES(0x12, 0x14, 0xDC, 0x05 ^ 0x01, 0x1F ^ 0x07)), 0);
+    CHECK(gives(&c), 0x04DC);
+}
+
+/* Each number at its place; a set-up area, then one with all that can be. */
+static void charger_area(void)
+{
+    static const uint8_t fresh[23] = {0, 0, 0, 0, 0, 0, 0, 0, 0,    0,    0,    0,
+                                      0, 0x98, 0x3A, 0xFF, 0xFF, 0xA5, 0x0B, 0xF0, 0xFF, 0xFF, 0xFF};
+    static const uint8_t lived[23] = {0x34, 0x12, 1, 1, 0x78, 0x56, 1, 0, 1,    0x98, 0xAB, 0x02,
+                                      0,    0x98, 0x3A, 0xFF, 0xFF, 0xA5, 0x0B, 0x88, 0xAB, 0x02, 0x00};
+    const struct sb2_sample first = {15000, -1, 2981, 0xFFFFFFF0u}, later = {15000, -1, 2981, 174984};
+    uint8_t area[23], reply[3];
+    struct sb2_charger c;
+    size_t length;
+    memset(area, 0xA5, sizeof area);
+    CHECK(sb2_area_charger_set_up(area, 23, &first), 0);
+    CHECK(memcmp(area, fresh, 23), 0);
+    sb2_charger_set_up(&c, &first);
+    CHECK(tell(&c, 0x12, 1), 0);
+    CHECK(tell(&c, 0x14, 0x1234), 0);
+    CHECK(tell(&c, 0x16, 0x8000), 0);
+    CHECK(tell(&c, 0x15, 0x5678), 0);
+    CHECK(sb2_charger_sample(&c, &later), 0);
+    CHECK(c.silence, 175000);
+    sb2_area_charger_store(&c, area);
+    CHECK(memcmp(area, lived, 23), 0);
+    static const uint8_t writes[4][4] = {
+        {0x12, 0x12, 1, 0}, {0x12, 0x14, 0x34, 0x12}, {0x12, 0x16, 0, 0x80}, {0x12, 0x15, 0x78, 0x56}};
+    CHECK(sb2_area_charger_set_up(area, 23, &first), 0);
+    for (size_t i = 0; i < 4; i++) {
+        CHECK(sb2_area_charger_transact(area, 23, false, bytes(writes[i], 4), reply, 3, &length), 0);
+        CHECK(length, 0);
+    }
+    CHECK(sb2_area_charger_sample(area, 23, &later), 0);
+    CHECK(memcmp(area, lived, 23), 0);
+    struct sb2_charger back;
+    CHECK(sb2_area_charger_load(bytes(area, 23), &back), true);
+    CHECK(same_charger(&c, &back), true);
+    /* a read shows what is there, and neither it nor a refusal stores */
+    CHECK(sb2_area_charger_transact(area, 23, true, BYTES(0x12, 0x13, 0x13), reply, 3, &length), 0);
+    CHECK(length, 3);
+    CHECK(reply[0] | reply[1] << 8, 0xD01D); /* −1 mA for 4,660, 15,000 mV for 22,136, inhibited, alarm */
+    CHECK(sb2_area_charger_transact(area, 23, true, BYTES(0x12, 0x14, 0x13), reply, 3, &length), 8);
+    CHECK(sb2_area_charger_transact(area, 23, false, bytes(writes[1], 4), reply, 2, &length), 2);
+    CHECK(memcmp(area, lived, 23), 0);
+}
+
+/* The charger's current in an area: mA, or 1 and 0 mA. A word that wasn't taken, which no message leaves, counts for
+ * nothing. */
+static void charger_area_current(void)
+{
+    uint8_t area[23] = {0xDC, 0x05, 1, 0, 0xA0, 0x41, 1, 0, 0, 0x97, 0xAB, 0x02}; /* silent for 174,999 ms */
+    static const size_t flags[] = {2, 3, 6, 7, 8};
+    static const long statuses[] = {0xC014, 0xD01C, 0xC018, 0xD01C, 0xC01D};
+    struct sb2_charger c;
+    uint16_t current = 1;
+    CHECK(sb2_area_charger_current(bytes(area, 23), &current), 0);
+    CHECK(current, 1500);
+    for (size_t i = 0; i < 5; i++) { /* any other set of facts stops it, and the words stay */
+        area[flags[i]] ^= 1;
+        CHECK(sb2_area_charger_current(bytes(area, 23), &current), 0);
+        CHECK(current, 0);
+        CHECK(sb2_area_charger_sound(bytes(area, 23)), true);
+        CHECK(sb2_area_charger_load(bytes(area, 23), &c), true);
+        CHECK(told(&c), statuses[i]);
+        area[flags[i]] ^= 1;
+    }
+    area[9] = 0x98;
+    CHECK(sb2_area_charger_current(bytes(area, 23), &current), 0);
+    CHECK(current, 0);
+    area[9] = 0x99; /* 175,001 */
+    current = 1;
+    CHECK(sb2_area_charger_current(bytes(area, 23), &current), 1);
+    CHECK(current, 0);
+    CHECK(sb2_area_charger_sound(bytes(area, 23)), false);
+    area[9] = 0x97;
+    area[5] = area[4] = 0; /* a ChargingVoltage of 0 */
+    CHECK(sb2_area_charger_current(bytes(area, 23), &current), 0);
+    CHECK(current, 0);
+}
+
+/* Each of the five entries answers 1 to bytes that are no area or aren't sound, and leaves them and its room. */
+static void no_charger_at(int line, const uint8_t *given, size_t size)
+{
+    const struct sb2_sample later = {1, 2, 3, 4};
+    uint8_t area[64], room[3] = {0xA5, 0xA5, 0xA5};
+    size_t length = 9;
+    uint16_t current = 9;
+    memcpy(area, given, sizeof area);
+    check_at(line, "sound", sb2_area_charger_sound(bytes(area, size)), false);
+    check_at(line, "current", sb2_area_charger_current(bytes(area, size), &current), 1);
+    check_at(line, "mA", current, 0);
+    check_at(line, "sample", sb2_area_charger_sample(area, size, &later), 1);
+    check_at(line, "read", sb2_area_charger_transact(area, size, true, BYTES(0x12, 0x13, 0x13), room, 3, &length), 1);
+    check_at(line, "length", (long long)length, 0);
+    check_at(line, "write", sb2_area_charger_transact(area, size, false, BYTES(0x12, 0x14, 1, 0), room, 0, &length), 1);
+    if (size != SB2_CHARGER_AREA)
+        check_at(line, "set-up", sb2_area_charger_set_up(area, size, &later), 1);
+    check_at(line, "area", memcmp(area, given, sizeof area), 0);
+    check_at(line, "room", room[0] == 0xA5 && room[1] == 0xA5 && room[2] == 0xA5, true);
+}
+#define NO_CHARGER(area, size) no_charger_at(__LINE__, area, size)
+
+static void charger_no_area(void)
+{
+    static const size_t flags[] = {2, 3, 6, 7, 8};
+    uint8_t area[64] = {0};
+    CHECK(sb2_area_charger_sound(bytes(area, 23)), true); /* all 0 is a charger at power-on */
+    for (size_t size = 0; size <= sizeof area; size++)
+        if (size != 23)
+            NO_CHARGER(area, size);
+    for (size_t i = 0; i < 5; i++)
+        for (unsigned flag = 2; flag < 256; flag++) {
+            area[flags[i]] = (uint8_t)flag;
+            NO_CHARGER(area, 23);
+            area[flags[i]] = 0;
+        }
+    for (unsigned at = 0; at < 23; at++) { /* of the other bytes only the count's can be too high */
+        area[at] = 0xFF;
+        const bool flag = at == 2 || at == 3 || (at >= 6 && at <= 8), count = at == 11 || at == 12;
+        CHECK(sb2_area_charger_sound(bytes(area, 23)), !flag && !count);
+        area[at] = 0;
+    }
+    memcpy(area + 9, "\x99\xAB\x02", 3);
+    NO_CHARGER(area, 23);
+}
+
+/* Hands a sample's broadcasts for address 12 to the charger, which must serve them. */
+static void deliver(struct sb2_charger *c, const uint8_t *room, size_t length, size_t each)
+{
+    for (size_t at = 0; at < length; at += each)
+        if (room[at] == 0x12)
+            CHECK(charger_answers(c, false, bytes(room + at, each)), 0);
+}
+
+/* Pack and charger on one clock: the pack charges at 1,200 mA whatever the charger gives, is full in time, and reports
+ * TERMINATE_CHARGE. The ms from there to no current; at most 30,999 (rule: R-7). */
+static uint32_t until_it_stops(bool plain, bool hold, uint32_t step, uint32_t full_after)
+{
+    struct sb2_set_up in = usual;
+    in.full_capacity = in.remaining_capacity = 2000;
+    in.charging_current = 1200;
+    in.charging_voltage = 16800;
+    in.temperature_limit = 3000;
+    in.plain = plain;
+    struct sb2_state pack = made(in);
+    pack.tank.charge -= 1200 * (uint64_t)full_after; /* so that it is full then */
+    pack.tank.run_open = false;
+    struct sb2_charger c = plugged();
+    uint32_t now = 0, reported = 0;
+    c.latest.counter = 0;
+    for (;;) {
+        const struct sb2_sample sample = {15000, 1200, 2981, now += step};
+        uint8_t room[SB2_BROADCAST_ROOM];
+        size_t length;
+        if (hold)
+            CHECK(put(&pack, 0x03, 0x2000), 0); /* no alarm goes, so that the words alone stop it */
+        CHECK(sb2_take_sample(&pack, &sample, room, sizeof room, &length), 0);
+        CHECK(sb2_charger_sample(&c, &sample), 0);
+        if (reported == 0 && (word(&pack, 0x16) & 0x4000) != 0) {
+            CHECK(now >= full_after && now < full_after + step, true);
+            CHECK(gives(&c), 1200);
+            reported = now;
+        }
+        deliver(&c, room, length, plain ? 4 : 5);
+        if (reported != 0 && gives(&c) == 0)
+            return now - reported;
+        if (reported != 0 && now - reported > 31000)
+            return 99999;
+    }
+}
+
+static void joined(void)
+{
+    CHECK(until_it_stops(false, false, 1000, 40000), 0); /* the first alarm goes at once */
+    CHECK(until_it_stops(true, false, 1000, 40000), 0);
+    CHECK(until_it_stops(false, true, 1000, 40000), 20000); /* words at 30 and 60 s */
+    CHECK(until_it_stops(false, true, 1000, 60000), 0);
+    CHECK(until_it_stops(true, true, 1000, 60001), 29000); /* full at 61, words at 90 */
+    CHECK(until_it_stops(true, true, 999, 31000), 29970);  /* words at 30.969, full at 31.968, words at 61.938 */
+    CHECK(until_it_stops(false, true, 1, 60000), 0);
+    CHECK(until_it_stops(false, true, 1, 60001), 29999);
+    for (uint32_t step = 10; step <= 1000; step += 90)
+        for (uint32_t full_after = 31000; full_after < 62000; full_after += 997) {
+            CHECK(until_it_stops(step % 2, true, step, full_after) <= 30999, true);
+            CHECK(until_it_stops(step % 2, false, step, full_after), 0);
+        }
+}
+
+static void charger(void)
+{
+    charger_bytes();
+    charger_status();
+    charger_mode();
+    charger_inhibited();
+    charger_to_zero();
+    charger_alarm_bits();
+    charger_after_alarm();
+    charger_current();
+    charger_silence();
+    charger_counter();
+    charger_not_sound();
+    charger_rooms();
+    charger_forms();
+    charger_commands();
+    charger_turned();
+    charger_area();
+    charger_area_current();
+    charger_no_area();
+    joined();
+}
+
 int main(void)
 {
     worked_examples();
@@ -2154,6 +2841,7 @@ int main(void)
     minute_in_area();
     tank_in_area();
     shelf();
+    charger();
     minutes_by_sums();
     either_choice();
     runs_by_history();

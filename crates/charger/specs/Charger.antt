@@ -45,11 +45,13 @@ asksFor a = a .taken && not (eqb (a .word) 0)
 abbrev pub silent : Charger → Bool
 silent s = leb 175000 (s .count)
 
--- the last ChargingCurrent taken; 0 before any, and while inhibited, alarm-inhibited, with a ChargingVoltage of 0 or none yet, or in silence (RULES 14.10)
+-- it gives none before any ChargingCurrent, while inhibited, alarm-inhibited, with a ChargingVoltage of 0 or none yet, or in silence (RULES 14.10)
+abbrev pub stopped : Charger → Bool
+stopped s = not (s .ChargingCurrent .taken) || s .inhibited || alarmInhibited s || not (asksFor (s .ChargingVoltage)) || silent s
+
+-- its current: else the last ChargingCurrent taken (RULES 14.10)
 unfoldable pub currentOf : Charger → ℕ
-currentOf s =
-    cond (not (s .ChargingCurrent .taken) || s .inhibited || alarmInhibited s || not (asksFor (s .ChargingVoltage)) || silent s) 0
-    (s .ChargingCurrent .word)
+currentOf s = cond (stopped s) 0 (s .ChargingCurrent .word)
 
 -- ---- its words
 

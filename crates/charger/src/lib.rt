@@ -143,7 +143,10 @@ fn flag(on: bool, weight: u16) -> u16
 fn status(s: Charger) -> u16
     ensures { λ r. ⌜ r ≡ statusOf s ⌝ }
 {
-    let alarm = flag(s.ChargingCurrent.awaited | s.ChargingVoltage.awaited, 0x1000);
+    let alarm = flag(
+        s.ChargingCurrent.awaited | s.ChargingVoltage.awaited,
+        0x1000,
+    );
     let below = words::falls(s.latest.current) | (s.latest.current < s.ChargingCurrent.word);
     let current = flag(s.ChargingCurrent.taken & below, 0x0008);
     let low = s.latest.voltage < s.ChargingVoltage.word;

@@ -21,7 +21,7 @@ module _ (p : Pack) (x : Sample) where
   unfolding movedOf
   moved-alarm = refl
 
-  moved-charger : movedOf p x .timers .charger ≡ cond (p .host .ChargerMode) 0 (min 30000 (p .timers .charger + gap p x))
+  pub moved-charger : movedOf p x .timers .charger ≡ cond (p .host .ChargerMode) 0 (min 30000 (p .timers .charger + gap p x))
   unfolding movedOf
   moved-charger = refl
 
@@ -46,7 +46,7 @@ module _ (p : Pack) (x : Sample) where
   unfolding sampledOf
   sampled-alarm = refl
 
-  sampled-charger : sampledOf p x .timers .charger ≡ cond (chargerGoes (movedOf p x)) 0 (movedOf p x .timers .charger)
+  pub sampled-charger : sampledOf p x .timers .charger ≡ cond (chargerGoes (movedOf p x)) 0 (movedOf p x .timers .charger)
   unfolding sampledOf
   sampled-charger = refl
 

@@ -1,0 +1,6 @@
+pub mod Cases
+pub mod Laws
+pub mod Exchanges
+pub mod Silence
+pub mod Alarms
+pub mod Status

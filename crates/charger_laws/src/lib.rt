@@ -1,0 +1,1 @@
+// What holds of the charger over calls and over its events: no code, only laws.

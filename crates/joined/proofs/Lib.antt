@@ -1,0 +1,5 @@
+pub mod Delivered
+pub mod Steps
+pub mod Stops
+pub mod Returns
+pub mod Computed

@@ -1,0 +1,1 @@
+// A pack and its charger on one clock: no code, only laws.
