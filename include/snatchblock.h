@@ -330,12 +330,16 @@ uint32_t snatchblock_transact(uint8_t *area, size_t area_length, const uint8_t *
  *    4      2  ChargingVoltage, mV
  *    6  2 x 1  flags, as above
  *    8      1  flag: INHIBIT_CHARGE as last written
- *    9      4  the count: ms since a request, 0 to 175,000; above that the state isn't sound
+ *    9      4  the count: ms with no request, 0 to 175,000; above that the state isn't sound
  *   13     10  the latest sample, as LATEST has it in the pack's area
  *
  * Its current is the last ChargingCurrent taken. It is 0 before any; while inhibited; after an alarm, until both
  * requests were written again; with a ChargingVoltage of 0 or none yet; and once samples counted 175 s with neither
- * request: the count stops there, and a new request starts it again.
+ * request: the count stops there, and a new request starts it again. A message carries no time, so that the count begins
+ * at the sample before the request: silence stops the charger up to one sample early, never late.
+ *
+ * Nothing is kept over a time without power. Set the charger up whenever its power comes back and whenever a pack is put
+ * in: what another pack asked for, or a host inhibited, doesn't count for it.
  *
  * Joined to a pack on one clock, samples at most 1 s apart and every broadcast delivered, nobody else writing to the
  * charger: where the pack reports TERMINATE_CHARGE with CHARGER_MODE clear, and both last, the current is 0 within 31 s
@@ -400,8 +404,8 @@ static inline uint32_t snatchblock_charger_sample_from(uint8_t *area, size_t are
  *   16 AlarmWarning     with bit 15, 14, 13 or 12: no current until 14 and 15 were both written again, or a POR_RESET
  *
  * Answers 0; 1; 2: a room under 3 bytes; 3 to 5; 6: any other command; 8: a read of 12, 14, 15 or 16, a write to 11 or
- * 13. It has no error code. Only a served write changes the area, and stores all of it. On 0 acknowledge; for a read
- * send the room's first length_of bytes.
+ * 13. It has no error code: a read and a refusal don't touch the area. On 0 acknowledge; for a read send the room's first
+ * length_of bytes.
  */
 uint32_t snatchblock_charger_transact(uint8_t *area, size_t area_length, bool read, const uint8_t *bytes,
                                       size_t bytes_length, uint8_t *room, size_t room_length);

@@ -1,7 +1,7 @@
 -- Each public function's answer is the lowest number whose condition holds.
 -- Assumes nothing.
 use Prim.Native.Nat.{ℕ}
-use mathlib.Core.Bool.{Bool, true, false, cond, not, _&&_, _||_}
+use mathlib.Core.Bool.{Bool, true, false, cond, not, _&&_, _||_, true≢false}
 use mathlib.Core.List.{List, [], _∷_}
 use mathlib.Core.Option.{Option, none, some}
 use mathlib.Core.Path.{_≡_, refl, sym, _∙_, ap}
@@ -17,6 +17,14 @@ use Rattle.capture.specs.Capture.{isCapture}
 use Rattle.capture.specs.Walk.{openedOf, seenBad}
 use Rattle.capture_writer.specs.Writer.{captureWrote, captureAnswer, captureGiven, givenFit, roomAsked}
 use Rattle.capture_laws.proofs.Walked.{step-answer}
+use Rattle.charger.specs.Charger as charger
+use Rattle.charger.specs.Commands.{isShown, isTaken, chargerKind}
+use Rattle.charger.specs.Transact as charger-bus
+use Rattle.charger.specs.declared.Charger.{Charger}
+use Rattle.charger.specs.declared.Sampled as charger-sampled
+use Rattle.charger_area.specs.Area as charger-area
+use Rattle.charger_area.specs.declared.Loaded as charger-loaded
+use Rattle.packed.proofs.Choice.{chosen}
 use Rattle.rooms.specs.Rooms.{wrote}
 use Rattle.clock.specs.Broadcast.{sampleOf}
 use Rattle.commands.specs.Answers.{Side, sideAnswer, requestAnswer, readAnswer, writeAnswer}
@@ -44,9 +52,9 @@ use Rattle.sheet.specs.declared.Located.{Located}
 use Rattle.sheet_writer.specs.Writing.{sheetWrote, writable, short}
 use Rattle.shelf.specs.Shelf.{anyBad}
 use Rattle.shelf.proofs.Steps.{report-answer}
-use Rattle.answers.specs.Conditions.{commandOf, isReserved, isOptional, isDenied, isBlock, transactConditions, isNone, overflows, tableConditions}
+use Rattle.answers.specs.Conditions.{commandOf, isReserved, isOptional, isDenied, isBlock, transactConditions, chargerTransactConditions, isNone, overflows, tableConditions}
 use Rattle.answers.specs.Lowest.{_when_, lowest, allAbove, rising, firstHolding}
-use Rattle.answers.specs.Promises.{TransactLowest, SetUpLowest, SampleLowest, LoadLowest, StoreLowest, WriteKeyLowest, ReadKeyLowest, FindLowest, UnescapeLowest, BlockLowest, LocateLowest, WriteSheetLowest, OpenLowest, StepLowest, WriteCaptureLowest, ExchangeLowest, ComparisonLowest, ReportLowest, TableReportLowest}
+use Rattle.answers.specs.Promises.{TransactLowest, SetUpLowest, SampleLowest, LoadLowest, StoreLowest, ChargerTransactLowest, ChargerSampleLowest, ChargerLoadLowest, ChargerStoreLowest, WriteKeyLowest, ReadKeyLowest, FindLowest, UnescapeLowest, BlockLowest, LocateLowest, WriteSheetLowest, OpenLowest, StepLowest, WriteCaptureLowest, ExchangeLowest, ComparisonLowest, ReportLowest, TableReportLowest}
 use Rattle.answers.proofs.Lowest.{first-is-lowest}
 
 -- ---- one condition
@@ -90,6 +98,17 @@ load-lowest area = answers {A = Loaded} (λ r. r .answer) (isArea area) _ _ ∙ 
 
 pub store-lowest : StoreLowest
 store-lowest s room = unless 1 (storable s room)
+
+pub charger-sample-lowest : ChargerSampleLowest
+unfolding charger.sampleOf
+charger-sample-lowest s sample = answers {A = charger-sampled.Sampled} (λ r. r .answer) (not (charger.soundOf s)) _ _ ∙ one 1 (not (charger.soundOf s))
+
+pub charger-load-lowest : ChargerLoadLowest
+unfolding charger-area.loadedOf
+charger-load-lowest area = answers {A = charger-loaded.Loaded} (λ r. r .answer) (charger-area.isChargerArea area) _ _ ∙ unless 1 (charger-area.isChargerArea area)
+
+pub charger-store-lowest : ChargerStoreLowest
+charger-store-lowest room = unless 1 (eqb (length room) charger-area.chargerLength)
 
 pub write-key-lowest : WriteKeyLowest
 unfolding keyWrote refused
@@ -241,3 +260,38 @@ transact-lowest s service factory read bytes room =
     ∙ ap (λ a. cond (foreign 0x16 bytes) 3 (cond (misshapen 0x16 read bytes) 4 (cond (miscoded read bytes) 5 a)))
     (by-row d (commandOf bytes) (kindOf (commandOf bytes)) read (goodSheets service factory) (isTen (s .pack) (commandOf bytes)) (ten-read-only (s .pack) (commandOf bytes)) refl (ten-exactly s (commandOf bytes))))
     ∙ sym (first-is-lowest (transactConditions s service factory read bytes room) refl)
+
+-- ---- the charger's transactions
+
+-- none of its commands is optional
+none-optional : (command : ℕ) → isOptional (chargerKind command) ≡ false
+unfolding chargerKind
+none-optional command =
+    chosen (λ (k : Kind). isOptional k ≡ false) (isShown command) (λ e. refl)
+    (λ e. chosen (λ (k : Kind). isOptional k ≡ false) (isTaken command) (λ f. refl) (λ f. refl))
+
+-- a row's answer is the first of 6 and 8 that holds
+by-charger-row : (s : Charger) (command : ℕ) (k : Kind) (read : Bool) → isOptional k ≡ false
+    → cond read (readAnswer (charger-bus.chargerSide s) command k) (writeAnswer k) ≡ firstHolding ((6 when isReserved k) ∷ (8 when isDenied read k) ∷ [])
+unfolding firstHolding
+by-charger-row s command Reserved read e = alike read 6
+by-charger-row s command Optional read e = absurd (true≢false e)
+by-charger-row s command Block true e = refl
+by-charger-row s command ReadOnly true e = refl
+by-charger-row s command WriteOnly true e = refl
+by-charger-row s command ReadWrite true e = refl
+by-charger-row s command Block false e = refl
+by-charger-row s command ReadOnly false e = refl
+by-charger-row s command WriteOnly false e = refl
+by-charger-row s command ReadWrite false e = refl
+
+pub charger-transact-lowest : ChargerTransactLowest
+unfolding charger-bus.transactOf charger-bus.transactAnswer sideAnswer requestOf firstHolding rising allAbove
+charger-transact-lowest s read bytes room =
+    let d = charger-bus.chargerSide s in
+    let command = commandOf bytes in
+    ap (λ a. cond (not (charger.soundOf s)) 1 (cond (ltb room 3) 2 a))
+    (asks d (foreign 0x12 bytes) (misshapen 0x12 read bytes) (miscoded read bytes) read bytes (eqb (length bytes) 5)
+    ∙ ap (λ a. cond (foreign 0x12 bytes) 3 (cond (misshapen 0x12 read bytes) 4 (cond (miscoded read bytes) 5 a)))
+    (by-charger-row s command (chargerKind command) read (none-optional command)))
+    ∙ sym (first-is-lowest (chargerTransactConditions s read bytes room) refl)

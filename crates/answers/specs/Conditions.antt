@@ -10,6 +10,10 @@ use Rattle.area.specs.Area.{isArea, storable}
 use Rattle.capture.specs.Capture.{isCapture}
 use Rattle.capture.specs.Walk.{seenBad}
 use Rattle.capture_writer.specs.Writer.{givenFit, roomAsked}
+use Rattle.charger.specs.Charger as charger
+use Rattle.charger.specs.Commands.{chargerKind}
+use Rattle.charger.specs.declared.Charger.{Charger}
+use Rattle.charger_area.specs.Area.{chargerLength, isChargerArea}
 use Rattle.commands.specs.Commands.{kindOf}
 use Rattle.commands.specs.declared.Kind.{Kind}
 use Rattle.commands.specs.declared.Kind.the-variants.{ReadWrite, ReadOnly, WriteOnly, Block, Optional, Reserved}
@@ -116,6 +120,32 @@ loadConditions area = (1 when not (isArea area)) ∷ []
 -- 1: the room isn't one for an area, or the count of kept seconds isn't a byte (RULES 1.1)
 abbrev pub storeConditions : State → List ℕ → List Condition
 storeConditions s room = (1 when not (storable s room)) ∷ []
+
+-- ---- the charger
+
+-- as of the pack, with 0x12 in the address's place and a room under 3 bytes; none of its commands is optional, a block or cut off (RULES 14.1)
+abbrev pub chargerTransactConditions : Charger → Bool → List ℕ → ℕ → List Condition
+chargerTransactConditions s read bytes room =
+    (1 when not (charger.soundOf s))
+    ∷ (2 when ltb room 3)
+    ∷ (3 when foreign 0x12 bytes)
+    ∷ (4 when misshapen 0x12 read bytes)
+    ∷ (5 when miscoded read bytes)
+    ∷ (6 when isReserved (chargerKind (commandOf bytes)))
+    ∷ (8 when isDenied read (chargerKind (commandOf bytes)))
+    ∷ []
+
+-- 1: state isn't sound (RULES 1.1)
+abbrev pub chargerSampleConditions : Charger → List Condition
+chargerSampleConditions s = (1 when not (charger.soundOf s)) ∷ []
+
+-- 1: bytes are no area of a charger (RULES 14.12)
+abbrev pub chargerLoadConditions : List ℕ → List Condition
+chargerLoadConditions area = (1 when not (isChargerArea area)) ∷ []
+
+-- 1: the room isn't one for such an area (RULES 14.12)
+abbrev pub chargerStoreConditions : List ℕ → List Condition
+chargerStoreConditions room = (1 when not (eqb (length room) chargerLength)) ∷ []
 
 -- ---- keys, sheets, captures
 

@@ -8,6 +8,10 @@ use Rattle.area.specs.Area.{loadedOf, storedOf}
 use Rattle.bus.specs.Transact.{transactOf}
 use Rattle.capture.specs.Walk.{openedOf, stepAt, answerOf}
 use Rattle.capture_writer.specs.Writer.{captureWrote}
+use Rattle.charger.specs.Charger as charger
+use Rattle.charger.specs.Transact as charger-bus
+use Rattle.charger.specs.declared.Charger.{Charger}
+use Rattle.charger_area.specs.Area as charger-area
 use Rattle.clock.specs.Broadcast.{sampleOf}
 use Rattle.names.specs.Names.{nameIn, plainWrote}
 use Rattle.key.specs.Key.{readKey, readOf, foundOf}
@@ -23,7 +27,7 @@ use Rattle.sheet_writer.specs.Writing.{sheetWrote}
 use Rattle.shelf.specs.Shelf.{reportOf}
 use Rattle.shelf.specs.declared.Row.{Row}
 use Rattle.shelf_table.specs.Table.{tableWrote}
-use Rattle.answers.specs.Conditions.{transactConditions, setUpConditions, sampleConditions, loadConditions, storeConditions, writeKeyConditions, readKeyConditions, unescapeConditions, blockConditions, writeSheetConditions, captureConditions, stepConditions, writeCaptureConditions, exchangeConditions, comparisonConditions, reportConditions, tableConditions}
+use Rattle.answers.specs.Conditions.{transactConditions, setUpConditions, sampleConditions, loadConditions, storeConditions, chargerTransactConditions, chargerSampleConditions, chargerLoadConditions, chargerStoreConditions, writeKeyConditions, readKeyConditions, unescapeConditions, blockConditions, writeSheetConditions, captureConditions, stepConditions, writeCaptureConditions, exchangeConditions, comparisonConditions, reportConditions, tableConditions}
 use Rattle.answers.specs.Lowest.{lowest}
 
 -- `transact`
@@ -46,6 +50,21 @@ LoadLowest = (area : List ℕ) → loadedOf area .answer ≡ lowest (loadConditi
 
 abbrev pub StoreLowest : Type 0
 StoreLowest = (s : State) (room : List ℕ) → storedOf s room ≡ lowest (storeConditions s room)
+
+-- the charger's `transact`, `sample`, `load` and `store`
+abbrev pub ChargerTransactLowest : Type 0
+ChargerTransactLowest =
+    (s : Charger) (read : Bool) (bytes : List ℕ) (room : ℕ)
+    → charger-bus.transactOf s read bytes room .answer ≡ lowest (chargerTransactConditions s read bytes room)
+
+abbrev pub ChargerSampleLowest : Type 0
+ChargerSampleLowest = (s : Charger) (sample : Sample) → charger.sampleOf s sample .answer ≡ lowest (chargerSampleConditions s)
+
+abbrev pub ChargerLoadLowest : Type 0
+ChargerLoadLowest = (area : List ℕ) → charger-area.loadedOf area .answer ≡ lowest (chargerLoadConditions area)
+
+abbrev pub ChargerStoreLowest : Type 0
+ChargerStoreLowest = (room : List ℕ) → charger-area.storedOf room ≡ lowest (chargerStoreConditions room)
 
 -- `write_key`, `read_key`, `find`, `unescape`
 abbrev pub WriteKeyLowest : Type 0

@@ -26,7 +26,7 @@ use Rattle.pack.specs.declared.Timers.{Timers}
 
 -- ---- flags
 
-flag-back : (b : Bool) → flagged (flagOf b) ≡ b
+pub flag-back : (b : Bool) → flagged (flagOf b) ≡ b
 flag-back true = refl
 flag-back false = refl
 
@@ -35,18 +35,18 @@ pub flag-byte : (b : Bool) → flagOf b ≡ flagOf b % 256
 flag-byte true = refl
 flag-byte false = refl
 
-is-flag : (b : Bool) → leb (flagOf b) 1 ≡ true
+pub is-flag : (b : Bool) → leb (flagOf b) 1 ≡ true
 is-flag true = refl
 is-flag false = refl
 
-flag-again : (n : ℕ) → leb n 1 ≡ true → flagOf (flagged n) ≡ n
+pub flag-again : (n : ℕ) → leb n 1 ≡ true → flagOf (flagged n) ≡ n
 flag-again n h = go (eqb n 1) refl
   where
     go : (t : Bool) → eqb n 1 ≡ t → flagOf (flagged n) ≡ n
     go true e = rw e (sym (eqb-true n 1 e))
     go false e = let z : n ≡ 0 = omega (arith, eqb-false n 1 e, leb-true n 1 h) in rw e (sym z)
 
-flag-within : (b : Bool) → flagOf b < 256
+pub flag-within : (b : Bool) → flagOf b < 256
 flag-within true = omega arith
 flag-within false = omega arith
 

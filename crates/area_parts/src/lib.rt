@@ -22,7 +22,7 @@ use pack::Timers;
 use recent::Recent;
 
 // A flag's byte.
-fn flag(b: bool) -> u8
+pub fn flag(b: bool) -> u8
     ensures { λ r. ⌜ r ≡ flagOf b ⌝ }
 {
     if b { 1 } else { 0 }

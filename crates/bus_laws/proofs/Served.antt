@@ -1,7 +1,7 @@
 -- What a served call is, and what reads and refused calls leave.
 -- Assumes nothing.
 use Prim.Native.Nat.{ℕ, _≤_}
-use mathlib.Core.Bool.{true, true≢false}
+use mathlib.Core.Bool.{Bool, true}
 use mathlib.Core.Logic.{inl, inr}
 use mathlib.Core.Path.{_≡_, refl, sym, ap, _∙_}
 use Rattle.bus.proofs.Answers.{refused-outcome, refusal}
@@ -12,8 +12,8 @@ use Rattle.bus_laws.specs.Promises.{RefusedCall, RefusedRoom, CodeLeft, 
 use Rattle.commands.specs.Answers.{readAnswer, writeAnswer, served}
 use Rattle.commands.specs.Commands.{kindOf}
 use Rattle.commands_laws.proofs.Visits.{served-heard, read-by-row, write-by-row}
-use Rattle.frame.specs.declared.Request.{Request}
-use Rattle.frame.specs.declared.Request.the-variants.{Refused, Read, Write}
+use Rattle.frame.proofs.Marks.{by-read}
+use Rattle.frame.specs.declared.Request.the-variants.{Write}
 use Rattle.frame_laws.proofs.Requests.{write-is}
 use Rattle.pack.specs.Sound.{soundOf}
 use Rattle.pack.specs.declared.Pack.{Pack}
@@ -53,12 +53,8 @@ code-left s c = refl
 -- ---- a read or a refused call changes nothing but the error code
 
 read-keeps : (p : Pack) (c : Call) (n : ℕ) → c .read ≡ true → packAfter p (asked (c .read) (c .bytes)) n ≡ p
-read-keeps p c n h = go (asked (c .read) (c .bytes)) refl
-  where
-    go : (q : Request) → asked (c .read) (c .bytes) ≡ q → packAfter p q n ≡ p
-    go (Refused m) e = refl
-    go (Read command) e = refl
-    go (Write command word checked) e = absurd (true≢false (sym h ∙ write-is 0x16 (c .read) (c .bytes) command word checked .0 e .0))
+read-keeps p c n h =
+    ap (λ (b : Bool). packAfter p (asked b (c .bytes)) n) h ∙ by-read (λ q. packAfter p q n ≡ p) 0x16 (c .bytes) (λ m. refl) (λ command. refl)
 
 pub idle-keeps : IdleKeeps
 unfolding transactOf

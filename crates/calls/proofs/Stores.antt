@@ -5,7 +5,7 @@ use mathlib.Core.List.{List, [], _∷_, _++_, append-assoc}
 use mathlib.Core.Path.{_≡_, refl, sym, ap, _∙_}
 use Prim.Native.Nat.{ℕ, zero, suc, _+_, _-_, _%_, _<_}
 use native.Mathlib.Omega.{arith}
-use borrow.Author.Tests.{ne-eqb, lt-leb}
+use borrow.Author.Tests.{eq-eqb, ne-eqb, lt-leb}
 use borrow.Rule.Slice.PartMut.{putMid, mid-len}
 use lib.Dec.{eqb, ltb, leb}
 use lib.ListN.{length, take, drop, set, length-append, take-append-drop}
@@ -15,10 +15,9 @@ use Rattle.area.specs.Area.{settingsAt, hostAt, latestAt, timersAt, areaLength,
 use Rattle.area_parts.specs.Parts.{settingsWidths, hostWidths, timersWidths, hostBytes, timersBytes}
 use Rattle.bus.specs.Transact.{packSide, packAfter, asked, transactAnswer, transactOf}
 use Rattle.bus.specs.declared.Transacted.{Transacted}
-use Rattle.commands.specs.Answers.{Side, served, codeAfter, writeAnswer, sideAnswer}
-use Rattle.commands.specs.declared.Kind.{Kind}
-use Rattle.commands.specs.declared.Kind.the-variants.{ReadWrite, ReadOnly, WriteOnly, Block, Optional, Reserved}
-use Rattle.frame.specs.Transactions.{requestOf, foreign, misshapen}
+use Rattle.commands.proofs.Answers.{none-served}
+use Rattle.commands.specs.Answers.{Side, codeAfter, sideAnswer}
+use Rattle.frame.proofs.Marks.{by-read}
 use Rattle.frame.specs.declared.Request.{Request}
 use Rattle.frame.specs.declared.Request.the-variants.{Refused, Read, Write}
 use Rattle.numbers.specs.Numbers.{numberBytes, bytesTaken}
@@ -115,31 +114,13 @@ past-three (suc (suc (suc n))) e = let m = suc (suc (suc n)) in rw (ne-eqb m 1 (
 
 -- a read changes nothing but the error code
 read-stays : (p : Pack) (bytes : List ℕ) (answer : ℕ) → packAfter p (asked true bytes) answer ≡ p
-unfolding requestOf
-read-stays p bytes answer =
-    chosen (λ (q : Request). packAfter p q answer ≡ p) (foreign 0x16 bytes) (λ e. refl)
-    (λ e. chosen (λ (q : Request). packAfter p q answer ≡ p) (misshapen 0x16 true bytes) (λ f. refl) (λ f. refl))
-
--- a write is served with 0 or not at all
-write-served : (k : Kind) → (eqb (writeAnswer k) 0 && true) ≡ false → served (writeAnswer k) ≡ false
-write-served Reserved e = refl
-write-served Optional e = refl
-write-served Block e = refl
-write-served ReadOnly e = refl
-write-served WriteOnly e = absurd (true≢false e)
-write-served ReadWrite e = absurd (true≢false e)
-
-write-refused : (d : Side) (command word : ℕ) (checked : Bool) (room : ℕ) → (eqb (sideAnswer d (Write command word checked) room) 0 && true) ≡ false
-    → served (sideAnswer d (Write command word checked) room) ≡ false
-unfolding sideAnswer
-write-refused d command word checked room =
-    chosen (λ (n : ℕ). (eqb n 0 && true) ≡ false → served n ≡ false) (not (d .sound)) (λ e f. refl)
-    (λ e. chosen (λ (n : ℕ). (eqb n 0 && true) ≡ false → served n ≡ false) (ltb room (d .least)) (λ f g. refl) (λ f. write-served (d .kinds command)))
+read-stays p bytes answer = by-read (λ q. packAfter p q answer ≡ p) 0x16 bytes (λ n. refl) (λ command. refl)
 
 other-stays : (d : Side) (p : Pack) (q : Request) (room : ℕ) → (eqb (sideAnswer d q room) 0 && true) ≡ false → packAfter p q (sideAnswer d q room) ≡ p
 other-stays d p (Refused n) room e = refl
 other-stays d p (Read command) room e = refl
-other-stays d p (Write command word checked) room e = rw (write-refused d command word checked room e)
+other-stays d p (Write command word checked) room e =
+    rw (none-served d command word checked room (λ z. true≢false (sym (ap (λ (t : Bool). t && true) (eq-eqb _ _ z)) ∙ e)))
 
 module _ (s : State) (service factory bytes : List ℕ) (room : ℕ) where
   pack-stays : (read : Bool) → (eqb (transactAnswer s service factory read bytes room) 0 && not read) ≡ false

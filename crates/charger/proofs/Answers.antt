@@ -11,6 +11,7 @@ use Rattle.charger.specs.Written.{chargerWritten}
 use Rattle.charger.specs.declared.Charger.{Charger}
 use Rattle.commands.proofs.Answers as commands
 use Rattle.commands.specs.Answers.{requestAnswer, served, sideReply}
+use Rattle.frame.proofs.Marks.{by-read}
 use Rattle.frame.specs.declared.Request.{Request}
 use Rattle.frame.specs.declared.Request.the-variants.{Refused, Read, Write}
 use Rattle.rooms.specs.Rooms.{placed}
@@ -32,6 +33,10 @@ refused-state : (s : Charger) (request : Request) (answer : ℕ) → served answ
 refused-state s (Refused n) answer e = refl
 refused-state s (Read command) answer e = refl
 refused-state s (Write command word checked) answer e = ap (λ (b : Bool). cond b (chargerWritten s command word) s) e
+
+-- a request that comes with the mark of a read is no write
+pub read-stays : (s : Charger) (bytes : List ℕ) (answer : ℕ) → chargerAfter s (asked true bytes) answer ≡ s
+read-stays s bytes answer = by-read (λ q. chargerAfter s q answer ≡ s) 0x12 bytes (λ n. refl) (λ command. refl)
 
 module _ (s : Charger) (read : Bool) (bytes : List ℕ) (room n : ℕ) (e : transactAnswer s read bytes room ≡ n) (v : served n ≡ false) where
   pub refused-no-reply : transactReply s read bytes room ≡ []

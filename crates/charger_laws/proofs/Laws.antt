@@ -9,7 +9,7 @@ use native.Mathlib.Omega.{arith}
 use borrow.Author.Tests.{le-leb, ne-eqb}
 use lib.Dec.{ltb, eqb}
 use lib.ListN.{length}
-use Rattle.charger.proofs.Answers.{refused-outcome, refusal, by-answer}
+use Rattle.charger.proofs.Answers.{read-stays, refused-outcome, refusal, by-answer}
 use Rattle.charger.specs.Charger.{soundOf, sampledOf, sampleOf}
 use Rattle.charger.specs.Commands.{isShown, isTaken, chargerKind}
 use Rattle.charger.specs.Transact.{chargerSide, chargerAfter, asked, transactAnswer, transactOf}
@@ -122,13 +122,6 @@ refused-room s read bytes room v = sym (refusal s read bytes room (transactAnswe
 
 pub refused-sample : RefusedSample
 refused-sample s x = sample-cases (λ r. (r .answer ≡ 0 → ⊥) → r .state ≡ s) s x (λ u n. refl) (λ v n. absurd (n refl))
-
--- a request that a read is isn't a write
-read-stays : (s : Charger) (bytes : List ℕ) (n : ℕ) → chargerAfter s (asked true bytes) n ≡ s
-unfolding requestOf
-read-stays s bytes n =
-    chosen (λ (q : Request). chargerAfter s q n ≡ s) (foreign 0x12 bytes) (λ e. refl)
-    (λ e. chosen (λ (q : Request). chargerAfter s q n ≡ s) (misshapen 0x12 true bytes) (λ f. refl) (λ f. refl))
 
 pub read-keeps : ReadKeeps
 unfolding transactOf

@@ -1,10 +1,11 @@
 -- What a request is answered and replied, by the numbers in their order.
 -- Assumes nothing.
 use Prim.Native.Nat.{ℕ, _<_, _≤_}
-use mathlib.Core.Bool.{Bool, true, false, cond}
+use mathlib.Core.Bool.{Bool, true, false, cond, not}
 use mathlib.Core.List.{List, []}
 use mathlib.Core.Path.{_≡_, refl, ap}
 use borrow.Author.Tests.{lt-ltb, le-ltb}
+use lib.Dec.{ltb}
 use Rattle.commands.specs.Answers.{Side, writeAnswer, requestAnswer, sideAnswer, served, sideReply}
 use Rattle.commands.specs.declared.Kind.{Kind}
 use Rattle.commands.specs.declared.Kind.the-variants.{ReadWrite, ReadOnly, WriteOnly, Block, Optional, Reserved}
@@ -38,3 +39,15 @@ write-refused Block h = refl
 write-refused ReadOnly h = refl
 write-refused WriteOnly h = absurd (h refl)
 write-refused ReadWrite h = absurd (h refl)
+
+-- whatever the state and the room
+pub none-served : (d : Side) (command word : ℕ) (checked : Bool) (room : ℕ) → (sideAnswer d (Write command word checked) room ≡ 0 → ⊥)
+    → served (sideAnswer d (Write command word checked) room) ≡ false
+unfolding sideAnswer
+none-served d command word checked room = go (not (d .sound)) (ltb room (d .least))
+  where
+    go : (unsound short : Bool) → (cond unsound 1 (cond short 2 (writeAnswer (d .kinds command))) ≡ 0 → ⊥)
+        → served (cond unsound 1 (cond short 2 (writeAnswer (d .kinds command)))) ≡ false
+    go true short h = refl
+    go false true h = refl
+    go false false h = write-refused (d .kinds command) h

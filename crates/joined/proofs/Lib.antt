@@ -3,3 +3,4 @@ pub mod Steps
 pub mod Stops
 pub mod Returns
 pub mod Computed
+pub mod Hot

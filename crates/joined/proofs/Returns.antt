@@ -66,12 +66,12 @@ broadcast-words c q a g = simp (a, and-false, g)
 broadcast-none : (c : Charger) (q : Pack) → chargerAlarm q ≡ false → chargerGoes q ≡ false → broadcastTaken c q ≡ c
 broadcast-none c q a g = simp (a, and-false, g)
 
-no-termination : (a b : Bool) → a || b ≡ false → a ≡ false
-no-termination true b e = absurd (true≢false e)
-no-termination false b e = refl
-
 asks-setting : (q : Pack) → chargerAlarm q ≡ false → chargingCurrent q ≡ q .settings .ChargingCurrent
-asks-setting q a = ap (λ (b : Bool). cond b 0 (q .settings .ChargingCurrent)) (no-termination (terminateCharge q) (overTemp q) a)
+asks-setting q = go (terminateCharge q) (overTemp q)
+  where
+    go : (terminates hot : Bool) → terminates || hot ≡ false → cond terminates 0 (q .settings .ChargingCurrent) ≡ q .settings .ChargingCurrent
+    go true hot e = absurd (true≢false e)
+    go false hot e = refl
 
 moved-settings : (p : Pack) (x : Sample) → movedOf p x .settings ≡ p .settings
 unfolding movedOf

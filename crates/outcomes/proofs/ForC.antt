@@ -2,7 +2,7 @@
 -- Assumes nothing.
 use mathlib.Core.Path.{refl}
 use Rattle.outcomes.specs.Outcome.{Settled}
-use Rattle.outcomes.specs.ForC.{snatchblockPecTerms, snatchblockExchangeCheckTerms, snatchblockBitComparisonTerms, snatchblockWriteKeyTerms, snatchblockReadKeyTerms, snatchblockUnescapeTerms, snatchblockWriteSheetTerms, snatchblockIsSheetTerms, snatchblockBlockTerms, snatchblockOpenCaptureTerms, snatchblockStepCaptureTerms, snatchblockShelfReportTerms, snatchblockSetUpTerms, snatchblockSoundTerms, snatchblockSampleTerms, snatchblockTransactTerms}
+use Rattle.outcomes.specs.ForC.{snatchblockPecTerms, snatchblockExchangeCheckTerms, snatchblockBitComparisonTerms, snatchblockWriteKeyTerms, snatchblockReadKeyTerms, snatchblockUnescapeTerms, snatchblockWriteSheetTerms, snatchblockIsSheetTerms, snatchblockBlockTerms, snatchblockOpenCaptureTerms, snatchblockStepCaptureTerms, snatchblockShelfReportTerms, snatchblockSetUpTerms, snatchblockSoundTerms, snatchblockSampleTerms, snatchblockTransactTerms, snatchblockChargerSetUpTerms, snatchblockChargerSoundTerms, snatchblockChargerSampleTerms, snatchblockChargerTransactTerms, snatchblockChargerCurrentTerms}
 use Rattle.outcomes.proofs.One.{settled}
 use Rattle.snatchblock.proofs.snatchblock_pec as snatchblock-pec-owed
 use Rattle.snatchblock.proofs.snatchblock_exchange_check as snatchblock-exchange-check-owed
@@ -20,6 +20,11 @@ use Rattle.snatchblock.proofs.snatchblock_set_up as snatchblock-set-up-owed
 use Rattle.snatchblock.proofs.snatchblock_sound as snatchblock-sound-owed
 use Rattle.snatchblock.proofs.snatchblock_sample as snatchblock-sample-owed
 use Rattle.snatchblock.proofs.snatchblock_transact as snatchblock-transact-owed
+use Rattle.snatchblock.proofs.snatchblock_charger_set_up as snatchblock-charger-set-up-owed
+use Rattle.snatchblock.proofs.snatchblock_charger_sound as snatchblock-charger-sound-owed
+use Rattle.snatchblock.proofs.snatchblock_charger_sample as snatchblock-charger-sample-owed
+use Rattle.snatchblock.proofs.snatchblock_charger_transact as snatchblock-charger-transact-owed
+use Rattle.snatchblock.proofs.snatchblock_charger_current as snatchblock-charger-current-owed
 
 pub snatchblock-pec-settled : Settled (λ M. snatchblock-pec-owed.clauses {M = M}) snatchblockPecTerms
 snatchblock-pec-settled = settled snatchblockPecTerms (λ M 𝓤 H A memory run. refl)
@@ -68,3 +73,18 @@ snatchblock-sample-settled = settled snatchblockSampleTerms (λ M 𝓤 H A memor
 
 pub snatchblock-transact-settled : Settled (λ M. snatchblock-transact-owed.clauses {M = M}) snatchblockTransactTerms
 snatchblock-transact-settled = settled snatchblockTransactTerms (λ M 𝓤 H A memory run. refl)
+
+pub snatchblock-charger-set-up-settled : Settled (λ M. snatchblock-charger-set-up-owed.clauses {M = M}) snatchblockChargerSetUpTerms
+snatchblock-charger-set-up-settled = settled snatchblockChargerSetUpTerms (λ M 𝓤 H A memory run. refl)
+
+pub snatchblock-charger-sound-settled : Settled (λ M. snatchblock-charger-sound-owed.clauses {M = M}) snatchblockChargerSoundTerms
+snatchblock-charger-sound-settled = settled snatchblockChargerSoundTerms (λ M 𝓤 H A memory run. refl)
+
+pub snatchblock-charger-sample-settled : Settled (λ M. snatchblock-charger-sample-owed.clauses {M = M}) snatchblockChargerSampleTerms
+snatchblock-charger-sample-settled = settled snatchblockChargerSampleTerms (λ M 𝓤 H A memory run. refl)
+
+pub snatchblock-charger-transact-settled : Settled (λ M. snatchblock-charger-transact-owed.clauses {M = M}) snatchblockChargerTransactTerms
+snatchblock-charger-transact-settled = settled snatchblockChargerTransactTerms (λ M 𝓤 H A memory run. refl)
+
+pub snatchblock-charger-current-settled : Settled (λ M. snatchblock-charger-current-owed.clauses {M = M}) snatchblockChargerCurrentTerms
+snatchblock-charger-current-settled = settled snatchblockChargerCurrentTerms (λ M 𝓤 H A memory run. refl)

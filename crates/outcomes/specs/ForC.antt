@@ -3,6 +3,7 @@
 use Prim.Native.Nat.{ℕ}
 use Rattle.calls.specs.Calls.{sampleArea, sampleNumber, sampleRoom, soundIn, startArea, startNumber, transactArea, transactNumber, transactRoom}
 use Rattle.capture.specs.Walk.{openedOf, stepAt}
+use Rattle.charger_calls.specs.Calls as chargers
 use Rattle.key.specs.Key as keys
 use Rattle.key_writer.specs.Writing as writing
 use Rattle.names.specs.Names as names
@@ -35,6 +36,11 @@ use Rattle.snatchblock.proofs.snatchblock_set_up as snatchblock-set-up-owed
 use Rattle.snatchblock.proofs.snatchblock_sound as snatchblock-sound-owed
 use Rattle.snatchblock.proofs.snatchblock_sample as snatchblock-sample-owed
 use Rattle.snatchblock.proofs.snatchblock_transact as snatchblock-transact-owed
+use Rattle.snatchblock.proofs.snatchblock_charger_set_up as snatchblock-charger-set-up-owed
+use Rattle.snatchblock.proofs.snatchblock_charger_sound as snatchblock-charger-sound-owed
+use Rattle.snatchblock.proofs.snatchblock_charger_sample as snatchblock-charger-sample-owed
+use Rattle.snatchblock.proofs.snatchblock_charger_transact as snatchblock-charger-transact-owed
+use Rattle.snatchblock.proofs.snatchblock_charger_current as snatchblock-charger-current-owed
 
 -- `snatchblock_pec`
 abbrev pub snatchblockPecTerms : Terms snatchblock-pec-owed.ended
@@ -147,3 +153,38 @@ snatchblockTransactTerms = termsOf
     (ℕ ∷ List ℕ ∷ List ℕ ∷ [])
     (λ κs r (area, (_, (_, (_, (_, (room, _)))))). (r, (now area, (now room, tt))))
     (λ κs (area, (service, (factory, (read, (bytes, (room, _)))))). (transactNumber (now area) (now service) (now factory) read (now bytes) (now room), (transactArea (now area) (now service) (now factory) read (now bytes) (now room), (transactRoom (now area) (now service) (now factory) read (now bytes) (now room), tt))))
+
+-- `snatchblock_charger_set_up`
+abbrev pub snatchblockChargerSetUpTerms : Terms snatchblock-charger-set-up-owed.ended
+snatchblockChargerSetUpTerms = termsOf
+    (ℕ ∷ List ℕ ∷ [])
+    (λ κs r (area, (_, (_, (_, (_, _))))). (r, (now area, tt)))
+    (λ κs (area, (voltage, (current, (temperature, (counter, _))))). (chargers.startNumber (now area), (chargers.startArea (now area) (sampleWith voltage current temperature counter), tt)))
+
+-- `snatchblock_charger_sound`
+abbrev pub snatchblockChargerSoundTerms : Terms snatchblock-charger-sound-owed.ended
+snatchblockChargerSoundTerms = termsOf
+    (Bool ∷ [])
+    (λ κs r _. (r, tt))
+    (λ κs (area, _). (chargers.soundIn (now area), tt))
+
+-- `snatchblock_charger_sample`
+abbrev pub snatchblockChargerSampleTerms : Terms snatchblock-charger-sample-owed.ended
+snatchblockChargerSampleTerms = termsOf
+    (ℕ ∷ List ℕ ∷ [])
+    (λ κs r (area, (_, (_, (_, (_, _))))). (r, (now area, tt)))
+    (λ κs (area, (voltage, (current, (temperature, (counter, _))))). (chargers.sampleNumber (now area) (sampleWith voltage current temperature counter), (chargers.sampleArea (now area) (sampleWith voltage current temperature counter), tt)))
+
+-- `snatchblock_charger_transact`
+abbrev pub snatchblockChargerTransactTerms : Terms snatchblock-charger-transact-owed.ended
+snatchblockChargerTransactTerms = termsOf
+    (ℕ ∷ List ℕ ∷ List ℕ ∷ [])
+    (λ κs r (area, (_, (_, (room, _)))). (r, (now area, (now room, tt))))
+    (λ κs (area, (read, (bytes, (room, _)))). (chargers.transactNumber (now area) read (now bytes) (now room), (chargers.transactArea (now area) read (now bytes) (now room), (chargers.transactRoom (now area) read (now bytes) (now room), tt))))
+
+-- `snatchblock_charger_current`
+abbrev pub snatchblockChargerCurrentTerms : Terms snatchblock-charger-current-owed.ended
+snatchblockChargerCurrentTerms = termsOf
+    (ℕ ∷ [])
+    (λ κs r _. (r, tt))
+    (λ κs (area, _). (chargers.currentNumber (now area), tt))

@@ -2,6 +2,7 @@
 ghost use mathlib.Core.Path.{_≡_};
 ghost use Rattle.calls.specs.Calls.{startNumber, startArea, soundIn, sampleNumber, sampleArea, sampleRoom, transactNumber, transactArea, transactRoom};
 ghost use Rattle.capture.specs.Walk.{openedOf, stepAt};
+ghost use Rattle.charger_calls.specs.Calls as chargers;
 ghost use Rattle.key.specs.Key as keys;
 ghost use Rattle.key_writer.specs.Writing as writing;
 ghost use Rattle.names.specs.Names as names;
@@ -242,4 +243,74 @@ pub extern "C" fn snatchblock_transact<'a>(
     ensures { λ _. ⌜ now (room .exit) ≡ transactRoom (now (area .entry)) (now (service .entry)) (now (factory .entry)) read (now (bytes .entry)) (now (room .entry)) ⌝ }
 {
     calls::transact(area, service, factory, read, bytes, room)
+}
+
+// ---- the charger
+
+#[no_mangle]
+pub extern "C" fn snatchblock_charger_set_up(
+    area: &mut [u8],
+    voltage: u16,
+    current: i16,
+    temperature: u16,
+    counter: u32,
+) -> u32
+    ensures { λ r. ⌜ r ≡ chargers.startNumber (now (area .entry)) ⌝ }
+    ensures { λ _. ⌜ now (area .exit) ≡ chargers.startArea (now (area .entry)) (sampleWith voltage current temperature counter) ⌝ }
+{
+    let first = Sample {
+        voltage: voltage,
+        current: current,
+        temperature: temperature,
+        counter: counter,
+    };
+    charger_calls::set_up(area, first)
+}
+
+#[no_mangle]
+pub extern "C" fn snatchblock_charger_sound(area: &[u8]) -> bool
+    ensures { λ r. ⌜ r ≡ chargers.soundIn (now (area .entry)) ⌝ }
+{
+    charger_calls::sound(area)
+}
+
+#[no_mangle]
+pub extern "C" fn snatchblock_charger_sample(
+    area: &mut [u8],
+    voltage: u16,
+    current: i16,
+    temperature: u16,
+    counter: u32,
+) -> u32
+    ensures { λ r. ⌜ r ≡ chargers.sampleNumber (now (area .entry)) (sampleWith voltage current temperature counter) ⌝ }
+    ensures { λ _. ⌜ now (area .exit) ≡ chargers.sampleArea (now (area .entry)) (sampleWith voltage current temperature counter) ⌝ }
+{
+    let sample = Sample {
+        voltage: voltage,
+        current: current,
+        temperature: temperature,
+        counter: counter,
+    };
+    charger_calls::sample(area, sample)
+}
+
+#[no_mangle]
+pub extern "C" fn snatchblock_charger_transact(
+    area: &mut [u8],
+    read: bool,
+    bytes: &[u8],
+    room: &mut [u8],
+) -> u32
+    ensures { λ r. ⌜ r ≡ chargers.transactNumber (now (area .entry)) read (now (bytes .entry)) (now (room .entry)) ⌝ }
+    ensures { λ _. ⌜ now (area .exit) ≡ chargers.transactArea (now (area .entry)) read (now (bytes .entry)) (now (room .entry)) ⌝ }
+    ensures { λ _. ⌜ now (room .exit) ≡ chargers.transactRoom (now (area .entry)) read (now (bytes .entry)) (now (room .entry)) ⌝ }
+{
+    charger_calls::transact(area, read, bytes, room)
+}
+
+#[no_mangle]
+pub extern "C" fn snatchblock_charger_current(area: &[u8]) -> u32
+    ensures { λ r. ⌜ r ≡ chargers.currentNumber (now (area .entry)) ⌝ }
+{
+    charger_calls::current(area)
 }

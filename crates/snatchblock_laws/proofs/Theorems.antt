@@ -17,10 +17,15 @@ use Rattle.capture.specs.Walk.{openedOf, stepAt, answerOf}
 use Rattle.capture.specs.declared.Opened.{Opened}
 use Rattle.capture.specs.declared.Step.{Step}
 use Rattle.capture.specs.declared.Step.the-variants.{Next, End, NotCapture}
+use Rattle.charger.specs.Charger.{currentOf}
+use Rattle.charger.specs.Transact as charger
+use Rattle.charger.specs.declared.Charger.{Charger}
+use Rattle.charger_area.specs.Area.{chargerIn, isChargerArea}
+use Rattle.charger_calls.specs.Calls as chargers
 use Rattle.clock.proofs.Outcome.{outcome}
 use Rattle.clock.specs.Broadcast.{sampleOf}
 use Rattle.clock.specs.declared.Sampled.{Sampled}
-use Rattle.commands.specs.Answers.{sideReply}
+use Rattle.commands.specs.Answers.{Side, sideReply}
 use Rattle.frame.specs.declared.Request.{Request}
 use Rattle.frame.specs.declared.Request.the-variants.{Refused, Read, Write}
 use Rattle.names.specs.Names.{nameIn, plainWrote}
@@ -37,7 +42,7 @@ use Rattle.sheet.specs.Block.{Part, ofService, ofFactory, goodSheets, partOf, l
 use Rattle.sheet.specs.declared.Located.{Located}
 use Rattle.sheet_writer.specs.Writing.{writable, sheetWrote}
 use Rattle.shelf_table.specs.Table.{tableAnswer}
-use Rattle.snatchblock_laws.specs.Bare.{Bare, WroteBare, CheckBare, ComparisonBare, KeyBare, NameBare, ReadBare, SheetBare, BlockBare, OpenedBare, StepBare, ShelfBare, SampleBare, TransactBare}
+use Rattle.snatchblock_laws.specs.Bare.{Bare, WroteBare, CheckBare, ComparisonBare, KeyBare, NameBare, ReadBare, SheetBare, BlockBare, OpenedBare, StepBare, ShelfBare, SampleBare, TransactBare, ChargerSampleBare, ChargerTransactBare, ChargerCurrentBare}
 
 -- answer 0 is no refusal
 served-bare : {n : ℕ} → Bare 0 n
@@ -114,11 +119,11 @@ sample-bare area sample room = go (isArea area)
     go true = sampled-bare (stateIn area) sample (length room)
     go false = λ _. refl
 
-module _ (s : State) (service factory bytes : List ℕ) where
-  reply-bare : (q : Request) (answer : ℕ) → Bare answer (packed answer (length (sideReply (packSide s service factory) bytes q answer)))
-  reply-bare (Refused n) answer h = omega arith
-  reply-bare (Read command) answer h = rw h (omega arith)
-  reply-bare (Write command word checked) answer h = omega arith
+-- of either side: only a served read has a reply
+reply-bare : (d : Side) (bytes : List ℕ) (q : Request) (answer : ℕ) → Bare answer (packed answer (length (sideReply d bytes q answer)))
+reply-bare d bytes (Refused n) answer h = omega arith
+reply-bare d bytes (Read command) answer h = rw h (omega arith)
+reply-bare d bytes (Write command word checked) answer h = omega arith
 
 pub transact-bare : TransactBare
 unfolding transactNumber transactOf
@@ -134,5 +139,35 @@ transact-bare area service factory read bytes room = go (isArea area)
     above = length (sideReply (packSide s service factory) bytes (asked read bytes) answer)
 
     go : (b : Bool) → Bare (cond b answer noState) (cond b (packed answer above) noState)
-    go true = reply-bare s service factory bytes (asked read bytes) answer
+    go true = reply-bare (packSide s service factory) bytes (asked read bytes) answer
+    go false = λ _. refl
+
+-- ---- the charger
+
+pub charger-sample-bare : ChargerSampleBare
+unfolding chargers.sampleNumber
+charger-sample-bare area sample h = refl
+
+pub charger-transact-bare : ChargerTransactBare
+unfolding chargers.transactNumber charger.transactOf
+charger-transact-bare area read bytes room = go (isChargerArea area)
+  where
+    s : Charger
+    s = chargerIn area
+
+    answer : ℕ
+    answer = charger.transactAnswer s read bytes (length room)
+
+    above : ℕ
+    above = length (sideReply (charger.chargerSide s) bytes (charger.asked read bytes) answer)
+
+    go : (b : Bool) → Bare (cond b answer 1) (cond b (packed answer above) 1)
+    go true = reply-bare (charger.chargerSide s) bytes (charger.asked read bytes) answer
+    go false = λ _. refl
+
+pub charger-current-bare : ChargerCurrentBare
+charger-current-bare area = go (chargers.soundIn area)
+  where
+    go : (b : Bool) → Bare (cond b 0 1) (cond b (packed 0 (currentOf (chargerIn area))) 1)
+    go true = served-bare
     go false = λ _. refl

@@ -7,6 +7,8 @@ use Prim.Native.Nat.{ℕ}
 use Rattle.area.specs.Area.{isArea, noState}
 use Rattle.calls.specs.Calls.{sampled, sampleNumber, transacted, transactNumber}
 use Rattle.capture.specs.Walk.{openedOf, stepAt, answerOf}
+use Rattle.charger_area.specs.Area.{isChargerArea}
+use Rattle.charger_calls.specs.Calls as chargers
 use Rattle.commands.specs.Answers.{served}
 use Rattle.names.specs.Names.{nameIn, plainWrote}
 use Rattle.key.specs.Key.{readKey, readOf}
@@ -68,3 +70,16 @@ abbrev pub TransactBare : Type 0
 TransactBare =
     (area service factory : List ℕ) (read : Bool) (bytes room : List ℕ)
     → Bare (cond (isArea area) (transacted area service factory read bytes room .answer) noState) (transactNumber area service factory read bytes room)
+
+-- ---- the charger (set-up's number is its answer)
+
+abbrev pub ChargerSampleBare : Type 0
+ChargerSampleBare = (area : List ℕ) (sample : Sample) → Bare (cond (isChargerArea area) (chargers.sampled area sample .answer) 1) (chargers.sampleNumber area sample)
+
+abbrev pub ChargerTransactBare : Type 0
+ChargerTransactBare =
+    (area : List ℕ) (read : Bool) (bytes room : List ℕ)
+    → Bare (cond (isChargerArea area) (chargers.transacted area read bytes room .answer) 1) (chargers.transactNumber area read bytes room)
+
+abbrev pub ChargerCurrentBare : Type 0
+ChargerCurrentBare = (area : List ℕ) → Bare (cond (chargers.soundIn area) 0 1) (chargers.currentNumber area)
