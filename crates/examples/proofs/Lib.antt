@@ -2,3 +2,4 @@ pub mod Twelve
 pub mod Learned
 pub mod Broadcasts
 pub mod Minutes
+pub mod Charger

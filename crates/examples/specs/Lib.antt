@@ -2,3 +2,4 @@ pub mod Examples
 pub mod Learned
 pub mod Broadcasts
 pub mod Minutes
+pub mod Charger
