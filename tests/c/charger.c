@@ -2,6 +2,7 @@
  * every function and answer, every command and word, what the area keeps and what it leaves. Check bytes are worked out
  * here bit by bit; some are written out, of a long division done elsewhere. */
 #include "check.h"
+#include "altered.h"
 #include "snatchblock.h"
 
 #include <string.h>
@@ -825,28 +826,12 @@ static void samples(void)
 /* ---- alterations */
 
 /* One, two or three altered bits of a right write of five bytes: nothing is taken, nothing changes. */
-static void altered(const uint8_t message[5])
+static unsigned taken;
+
+static void count_if_taken(const uint8_t altered[5])
 {
-    unsigned tried = 0, wrong = 0;
-    remember();
-    for (unsigned i = 0; i < 40; i++)
-        for (unsigned j = i; j < 40; j++)
-            for (unsigned k = j; k < 40; k++) {
-                uint8_t other[5];
-                if (i == j && j < k)
-                    continue; /* i = j = k alters one bit, j = k two */
-                memcpy(other, message, 5);
-                other[i / 8] ^= (uint8_t)(1u << i % 8);
-                if (j != i)
-                    other[j / 8] ^= (uint8_t)(1u << j % 8);
-                if (k != j)
-                    other[k / 8] ^= (uint8_t)(1u << k % 8);
-                wrong += transact(false, other, 5) != (other[0] == 0x12 ? 5 : 3);
-                wrong += !area_stays() || !room_is(NULL, 0);
-                tried++;
-            }
-    CHECK(tried, 40 + 780 + 9880);
-    CHECK(wrong, 0);
+    taken += transact(false, altered, 5) != (altered[0] == 0x12 ? 5 : 3);
+    taken += !area_stays() || !room_is(NULL, 0);
 }
 
 /* Writes that would each show. Four bits can be too many: x^8 + x^2 + x + 1 itself, at the end of a message. */
@@ -857,7 +842,9 @@ static void alterations(void)
         {0x12, 0x15, 0x68, 0x42, 0xBD}, {0x12, 0x16, 0x8F, 0x52, 0x58}};
     for (size_t i = 0; i < sizeof message / sizeof *message; i++) {
         in_use();
-        altered(message[i]);
+        remember();
+        each_altered(message[i], count_if_taken);
+        CHECK(taken, 0);
         CHECK(transact(false, message[i], 5), 0);
         CHECK(area_stays(), false);
     }

@@ -24,7 +24,7 @@ use Rattle.charger.specs.declared.Charger.{Charger}
 use Rattle.charger.specs.declared.Sampled as charger-sampled
 use Rattle.charger_area.specs.Area as charger-area
 use Rattle.charger_area.specs.declared.Loaded as charger-loaded
-use Rattle.packed.proofs.Choice.{chosen}
+use Rattle.rooms.proofs.Choice.{chosen}
 use Rattle.rooms.specs.Rooms.{wrote}
 use Rattle.clock.specs.Broadcast.{sampleOf}
 use Rattle.commands.specs.Answers.{Side, sideAnswer, requestAnswer, readAnswer, writeAnswer}

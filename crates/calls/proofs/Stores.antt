@@ -23,7 +23,7 @@ use Rattle.frame.specs.declared.Request.the-variants.{Refused, Read, Write}
 use Rattle.numbers.specs.Numbers.{numberBytes, bytesTaken}
 use Rattle.pack.specs.declared.Pack.{Pack}
 use Rattle.pack.specs.declared.State.{State}
-use Rattle.packed.proofs.Choice.{chosen}
+use Rattle.rooms.proofs.Choice.{chosen}
 use Rattle.rooms.proofs.Rooms.{front}
 use Rattle.rooms.specs.Rooms.{between}
 use Rattle.calls.specs.Calls.{stays, areaAfter}

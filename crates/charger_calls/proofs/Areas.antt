@@ -22,7 +22,7 @@ use Rattle.frame.proofs.Replies.{reply-length}
 use Rattle.frame.specs.declared.Request.{Request}
 use Rattle.frame.specs.declared.Request.the-variants.{Refused, Read, Write}
 use Rattle.pack.specs.declared.Sample.{Sample}
-use Rattle.packed.proofs.Choice.{chosen}
+use Rattle.rooms.proofs.Choice.{chosen}
 use Rattle.packed.specs.Packed.{packed}
 
 -- ---- loaded

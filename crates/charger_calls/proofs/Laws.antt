@@ -20,7 +20,7 @@ use Rattle.commands.proofs.Answers.{none-served}
 use Rattle.commands.specs.Answers.{Side, sideAnswer}
 use Rattle.frame.specs.declared.Request.{Request}
 use Rattle.frame.specs.declared.Request.the-variants.{Refused, Read, Write}
-use Rattle.packed.proofs.Choice.{chosen}
+use Rattle.rooms.proofs.Choice.{chosen}
 
 pub sample-holds : SampleHolds
 unfolding sampleArea sampleOf

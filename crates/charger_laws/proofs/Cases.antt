@@ -5,7 +5,7 @@ use mathlib.Core.Bool.{Bool, true, false, cond, not, _&&_}
 use mathlib.Core.List.{List}
 use mathlib.Core.Path.{_≡_, refl, sym, ap, _∙_}
 use lib.Dec.{eqb}
-use Rattle.packed.proofs.Choice.{chosen}
+use Rattle.rooms.proofs.Choice.{chosen}
 use Rattle.charger.specs.Charger.{powerOn, soundOf, sampledOf, sampleOf}
 use Rattle.charger.specs.Transact.{chargerAfter, asked, transactAnswer, transactOf}
 use Rattle.charger.specs.Written.{zeroedIf, modeWritten, currentWritten, voltageWritten, alarmWritten, chargerWritten}

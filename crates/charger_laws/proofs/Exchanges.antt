@@ -18,7 +18,7 @@ use Rattle.commands.specs.declared.Kind.{Kind}
 use Rattle.commands.specs.declared.Kind.the-variants.{Optional}
 use Rattle.commands_laws.proofs.Visits as visits
 use Rattle.commands_laws.specs.Visits.{VisitExchanged}
-use Rattle.packed.proofs.Choice.{chosen}
+use Rattle.rooms.proofs.Choice.{chosen}
 use Rattle.registers.specs.Registers.{bit}
 
 -- every exchange of the charger's is a word's

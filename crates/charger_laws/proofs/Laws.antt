@@ -27,7 +27,7 @@ use Rattle.frame.specs.declared.Request.the-variants.{Refused, Read, Write}
 use Rattle.frame_laws.proofs.Requests.{altered, refused-is}
 use Rattle.frame_laws.specs.Requests.{Lowest}
 use Rattle.pack.specs.declared.Sample.{Sample}
-use Rattle.packed.proofs.Choice.{chosen}
+use Rattle.rooms.proofs.Choice.{chosen}
 
 -- ---- soundness
 

@@ -26,7 +26,7 @@ use Rattle.pack.specs.Sound.{soundOf}
 use Rattle.pack.specs.declared.Pack.{Pack}
 use Rattle.pack.specs.declared.Sample.{Sample}
 use Rattle.pack.specs.declared.State.{State}
-use Rattle.packed.proofs.Choice.{chosen}
+use Rattle.rooms.proofs.Choice.{chosen}
 use Rattle.runs.proofs.Histories.{step-sound, took, still-of}
 use Rattle.runs.specs.Events.{call, step, accepted}
 use Rattle.runs.specs.Histories.{Left}

@@ -18,7 +18,7 @@ use Rattle.names.proofs.Escaping.{escape-length}
 use Rattle.key.proofs.Form.{key-length}
 use Rattle.names.specs.Names.{unescaped, ofKey, nameIn, plainWrote}
 use Rattle.key_writer.specs.Writing.{refused, keyWrote}
-use Rattle.packed.proofs.Choice.{chosen}
+use Rattle.rooms.proofs.Choice.{chosen}
 use Rattle.rooms.specs.declared.Wrote.{Wrote}
 use Rattle.shelf_table.specs.Table.{tableAnswer, tableWrote}
 use Rattle.pec.proofs.Loops.{apart-le}

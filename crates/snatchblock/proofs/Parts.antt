@@ -15,7 +15,7 @@ use Rattle.names.proofs.Escaping.{escape-length}
 use Rattle.key.specs.Key.{Parts, readKey, foundOf}
 use Rattle.key.specs.declared.Found.{Found}
 use Rattle.names.specs.Names.{escape}
-use Rattle.packed.proofs.Choice.{chosen}
+use Rattle.rooms.proofs.Choice.{chosen}
 use Rattle.packed.specs.Packed.{keyNumber, readNumber, RowFits}
 use Rattle.sheet.proofs.Lengths.{at-most-145}
 use Rattle.sheet.proofs.Names.{both, InSheet, part-in}

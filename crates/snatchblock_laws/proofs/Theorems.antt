@@ -33,7 +33,7 @@ use Rattle.key.specs.Key.{Parts, readKey, readOf}
 use Rattle.key_writer.specs.Writing.{refused, keyWrote}
 use Rattle.pack.specs.declared.Sample.{Sample}
 use Rattle.pack.specs.declared.State.{State}
-use Rattle.packed.proofs.Choice.{chosen}
+use Rattle.rooms.proofs.Choice.{chosen}
 use Rattle.packed.specs.Packed.{packed, checkNumber, comparisonNumber, openedNumber, readNumber, locatedNumber, stepNumber}
 use Rattle.pec.specs.declared.Checked.{Checked}
 use Rattle.pec.specs.declared.Compared.{Compared}
