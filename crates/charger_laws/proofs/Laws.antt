@@ -15,9 +15,10 @@ use Rattle.charger.specs.Commands.{isShown, isTaken, chargerKind}
 use Rattle.charger.specs.Transact.{chargerSide, chargerAfter, asked, transactAnswer, transactOf}
 use Rattle.charger.specs.Written.{chargerWritten}
 use Rattle.charger.specs.declared.Charger.{Charger}
+use Rattle.charger.specs.declared.Transacted.{Transacted}
 use Rattle.charger_laws.proofs.Cases.{call-cases, write-cases, sample-cases}
 use Rattle.charger_laws.specs.Events.{Call, result, answer, visit, Event, sample, call, step, run}
-use Rattle.charger_laws.specs.Promises.{SetUpSound, SoundStays, ReadRow, WriteRow, NeverComes, OtherAddresses, RefusedKeeps, RefusedRoom, RefusedSample, ReadKeeps, AlteredKeeps}
+use Rattle.charger_laws.specs.Promises.{SetUpSound, SoundStays, ReadRow, WriteRow, NeverComes, OtherAddresses, RefusedKeeps, RefusedRoom, RefusedSample, ReadKeeps, IdleKeeps, AlteredKeeps}
 use Rattle.commands.specs.Answers.{readAnswer, writeAnswer, requestAnswer, sideAnswer}
 use Rattle.commands.specs.declared.Kind.{Kind}
 use Rattle.commands_laws.proofs.Visits.{read-in-rows, write-in-rows}
@@ -126,6 +127,10 @@ refused-sample s x = sample-cases (λ r. (r .answer ≡ 0 → ⊥) → r .state 
 pub read-keeps : ReadKeeps
 unfolding transactOf
 read-keeps s c r = ap (λ (b : Bool). chargerAfter s (asked b (c .bytes)) (answer s c)) r ∙ read-stays s (c .bytes) (answer s c)
+
+pub idle-keeps : IdleKeeps
+idle-keeps s c (inl h) = read-keeps s c h
+idle-keeps s c (inr v) = ap (λ (t : Transacted). t .state) (refused-keeps s c v)
 
 -- ---- a right five-byte write altered in one to three bits
 

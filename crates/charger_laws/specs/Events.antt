@@ -51,7 +51,7 @@ Reads c command = (c .read ≡ true) × (c .bytes ≡ readBytes 0x12 command)
 abbrev pub Writes : Call → ℕ → ℕ → Type 0
 Writes c command word = (c .read ≡ false) × ((checked : Bool) × WriteBytes 0x12 command word checked (c .bytes))
 
--- a served read of some command; command and word are what their types let them be
+-- a served read of some command, which is a byte
 pub record Exchanged (s : Charger) (c : Call) : Type 0 where
   pub command : ℕ
   pub reads : Reads c command

@@ -80,6 +80,10 @@ RefusedSample = (s : Charger) (x : Sample) → (sampleOf s x .answer ≡ 0 → �
 abbrev pub ReadKeeps : Type 0
 ReadKeeps = (s : Charger) (c : Call) → c .read ≡ true → result s c .state ≡ s
 
+-- so a read or a refused call changes nothing
+abbrev pub IdleKeeps : Type 0
+IdleKeeps = (s : Charger) (c : Call) → (c .read ≡ true) ⊎ (served (answer s c) ≡ false) → result s c .state ≡ s
+
 -- ---- exchanges, as demand 3 says
 
 -- a served read's exchange is right, of 6 bytes

@@ -3,6 +3,7 @@
 use Prim.Native.Nat.{ℕ, zero, suc, _+_}
 use mathlib.Core.Bool.{Bool, true, false, not, _&&_, and-eq-true-iff, true≢false}
 use mathlib.Core.List.{List, [], _∷_, _++_}
+use mathlib.Core.Logic.{inl}
 use mathlib.Core.Path.{_≡_, refl, sym, ap, _∙_}
 use native.Mathlib.Omega.{arith}
 use borrow.Author.Tests.{eqb-true, leb-true, not-true}
@@ -20,7 +21,7 @@ use Rattle.clock.specs.Sample.{elapsedOf, movedOf}
 use Rattle.commands.specs.Answers.{sideAnswer, codeAfter}
 use Rattle.commands.specs.Commands.{kindOf}
 use Rattle.frame.specs.Transactions.{requestOf}
-use Rattle.joined.specs.Joined.{Joint, Tick, Happening, tick, host, eventOf, eventsOf, happen, afterAll, gapOf, Fair, AllFair, Throughout}
+use Rattle.joined.specs.Joined.{Joint, Tick, Happening, tick, host, asks, packSample, eventsOf, happen, afterAll, gapOf, Fair, AllFair, Throughout}
 use Rattle.joined.specs.Promises.{Terminating, Gives, Charging, fromSetUps, StillOn, SharpTo30999, AfterAlarm, ReturnsFromAnAlarm}
 use Rattle.pack.specs.Sound.{soundOf, packSound, settingsSound, tankSound, towardSound, runSound, timersSound, errorSound}
 use Rattle.pack.specs.declared.Sample.{Sample}
@@ -50,8 +51,9 @@ throughout p P f j (h ∷ hs) e = let b = both _ _ e in (f j (b .0), throughout 
 
 abbrev fair : Joint → Happening → Bool
 fair j (tick t) =
-    accepted (j .pack) (eventOf (tick t)) && (leb 3 (t .reply) && (eqb (elapsedOf (t .charger .counter) (j .charger .latest .counter)) (gapOf j t) && leb (gapOf j t) 1000))
+    accepted (j .pack) (packSample t) && (leb 3 (t .reply) && (eqb (elapsedOf (t .charger .counter) (j .charger .latest .counter)) (gapOf j t) && leb (gapOf j t) 1000))
 fair j (host c) = true
+fair j (asks c) = c .read
 
 fairly : (j : Joint) (h : Happening) → fair j h ≡ true → Fair j h
 fairly j (tick t) h =
@@ -60,6 +62,7 @@ fairly j (tick t) h =
     let d = both _ _ (b .1) in
     (a .0, leb-true _ _ (b .0), eqb-true _ _ (d .0), leb-true _ _ (d .1))
 fairly j (host c) h = tt
+fairly j (asks c) h = inl h
 
 abbrev allFair : Joint → List Happening → Bool
 allFair j [] = true

@@ -31,7 +31,7 @@ use Rattle.frame.specs.declared.Message.{Message}
 use Rattle.frame.specs.declared.Request.{Request}
 use Rattle.frame.specs.declared.Request.the-variants.{Refused, Write}
 use Rattle.frame_laws.proofs.Requests.{write-is}
-use Rattle.joined.specs.Joined.{Tick, tick, eventOf, cut, messagesFrom, deliveries}
+use Rattle.joined.specs.Joined.{Tick, packSample, cut, messagesFrom, deliveries}
 use Rattle.pack.specs.declared.Pack.{Pack}
 use Rattle.pack.specs.declared.State.{State}
 use Rattle.runs.specs.Events.{accepted}
@@ -131,7 +131,7 @@ broadcast-heard reply c q l h =
 -- ---- the messages of a tick
 
 -- at a served sample they are the broadcast's
-pub messages-are : (s : State) (t : Tick) → accepted s (eventOf (tick t)) ≡ true
+pub messages-are : (s : State) (t : Tick) → accepted s (packSample t) ≡ true
     → messagesFrom s t ≡ cut (s .pack .settings .plain) (broadcastOf (movedOf (s .pack) (t .pack))) 0 (length (messagesOf (movedOf (s .pack) (t .pack))))
 messages-are s t =
     outcome
@@ -141,7 +141,7 @@ messages-are s t =
     s (t .pack) (t .room) (λ z. absurd (true≢false (sym z))) (λ z. absurd (true≢false (sym z))) (λ h z. refl)
 
 -- so the charger takes the broadcast
-pub tick-heard : (s : State) (t : Tick) (c : Charger) → accepted s (eventOf (tick t)) ≡ true → 3 ≤ t .reply → chargerSound c ≡ true
+pub tick-heard : (s : State) (t : Tick) (c : Charger) → accepted s (packSample t) ≡ true → 3 ≤ t .reply → chargerSound c ≡ true
     → charger.run c (deliveries (t .reply) (messagesFrom s t)) ≡ broadcastTaken c (movedOf (s .pack) (t .pack))
 unfolding movedOf
 tick-heard s t c a l h =

@@ -15,9 +15,9 @@ use Rattle.charger_laws.proofs.Alarms.{both-taken}
 use Rattle.clock.specs.Sample.{elapsedOf, movedOf}
 use Rattle.clock_laws.specs.Steps.{gap}
 use Rattle.joined.proofs.Delivered.{broadcastTaken}
-use Rattle.joined.proofs.Steps.{BothSound, happen-sound, tick-charger, tick-timer, tick-settings, tick-alarms, timer-decides, host-untouched}
+use Rattle.joined.proofs.Steps.{BothSound, happen-sound, tick-charger, tick-timer, tick-settings, tick-alarms, timer-decides, asked-stays, host-untouched}
 use Rattle.joined.proofs.Stops.{now-true, waits}
-use Rattle.joined.specs.Joined.{Joint, Tick, Happening, tick, host, happen, Fair, AllFair, Throughout}
+use Rattle.joined.specs.Joined.{Joint, Tick, Happening, tick, host, asks, happen, Fair, AllFair, Throughout}
 use Rattle.joined.specs.Promises.{Charging, Follows, JoinedReturns}
 use Rattle.pack.specs.declared.Pack.{Pack}
 use Rattle.pack.specs.declared.Sample.{Sample}
@@ -138,6 +138,7 @@ runs-on : (j : Joint) (e : Happening) → BothSound j → Fair j e → Charging 
 runs-on j (host c) s f k k′ r =
     let u = host-untouched (j .pack) c in
     running-is (happen j (host c)) (j .pack .pack .settings) _ (sym (u .1)) (omega (arith, u .0 (k′ .1))) r
+runs-on j (asks c) s f k k′ r = subst (Runs _ _ _) (sym (asked-stays j c f)) r
 runs-on j (tick t) s f k k′ r =
     let p = j .pack .pack in
     let q = movedOf p (t .pack) in
@@ -164,6 +165,7 @@ Ready j = (j .charger .inhibited ≡ false) × (j .pack .pack .settings .Chargin
 settings-stay : (j : Joint) (e : Happening) → Fair j e → happen j e .pack .pack .settings ≡ j .pack .pack .settings
 settings-stay j (tick t) f = tick-settings j t (f .0)
 settings-stay j (host c) f = host-untouched (j .pack) c .1
+settings-stay j (asks c) f = refl
 
 voltage-stays : (j : Joint) (e : Happening) → Fair j e → (j .pack .pack .settings .ChargingVoltage ≡ 0 → ⊥) → happen j e .pack .pack .settings .ChargingVoltage ≡ 0 → ⊥
 voltage-stays j e f v z = v (sym (ap (λ (u : Settings). u .ChargingVoltage) (settings-stay j e f)) ∙ z)
@@ -180,6 +182,7 @@ taken-free c false false word current voltage = refl
 free-stays : (j : Joint) (e : Happening) → BothSound j → Fair j e → happen j e .charger .inhibited ≡ j .charger .inhibited
 unfolding chargerSampledOf
 free-stays j (host c) s f = refl
+free-stays j (asks c) s f = ap (λ (d : Charger). d .inhibited) (asked-stays j c f)
 free-stays j (tick t) s f =
     let q = movedOf (j .pack .pack) (t .pack) in
     let free : (c : Charger) → broadcastTaken c q .inhibited ≡ c .inhibited =

@@ -14,20 +14,20 @@ use Rattle.charger.specs.Written.{chargerWritten}
 use Rattle.charger.specs.declared.Charger.{Charger}
 use Rattle.charger.specs.declared.Sampled.{Sampled as ChargerSampled}
 use Rattle.charger_laws.proofs.Cases.{sample-goes-on}
-use Rattle.charger_laws.proofs.Laws.{step-sound as charger-step-sound, sound-stays as charger-sound-stays}
+use Rattle.charger_laws.proofs.Laws.{step-sound as charger-step-sound, sound-stays as charger-sound-stays, idle-keeps}
 use Rattle.charger_laws.specs.Events as charger
 use Rattle.clock.specs.Broadcast.{sampledOf}
 use Rattle.clock.specs.Sample.{movedOf}
 use Rattle.clock_laws.proofs.Timers.{moved-charger, sampled-charger}
 use Rattle.clock_laws.specs.Steps.{gap}
 use Rattle.joined.proofs.Delivered.{broadcastTaken, tick-heard}
-use Rattle.joined.specs.Joined.{Joint, Tick, Happening, tick, host, eventOf, messagesFrom, deliveries, chargerEvents, happen}
+use Rattle.joined.specs.Joined.{Joint, Tick, Happening, tick, asks, packSample, packEvents, messagesFrom, deliveries, chargerEvents, happen, Fair}
 use Rattle.pack.specs.Sound.{soundOf}
 use Rattle.pack.specs.declared.Pack.{Pack}
 use Rattle.pack.specs.declared.Sample.{Sample}
 use Rattle.pack.specs.declared.State.{State}
 use Rattle.rooms.proofs.Choice.{chosen}
-use Rattle.runs.proofs.Histories.{step-sound, took, still-of}
+use Rattle.runs.proofs.Histories.{run-sound, took, still-of}
 use Rattle.runs.specs.Events.{call, step, accepted}
 use Rattle.runs.specs.Histories.{Left}
 use Rattle.status.specs.Status.{alarmWord}
@@ -39,7 +39,7 @@ abbrev pub BothSound : Joint → Type 0
 BothSound j = (soundOf (j .pack) ≡ true) × (chargerSound (j .charger) ≡ true)
 
 pub happen-sound : (j : Joint) (h : Happening) → BothSound j → BothSound (happen j h)
-happen-sound j h (s, k) = (step-sound (j .pack) (eventOf h) s, charger-sound-stays (j .charger) (chargerEvents (j .pack) h) k)
+happen-sound j h (s, k) = (run-sound (j .pack) (packEvents h) s, charger-sound-stays (j .charger) (chargerEvents (j .pack) h) k)
 
 -- ---- the charger at a tick
 
@@ -49,7 +49,7 @@ run-append c [] fs = refl
 run-append c (e ∷ es) fs = run-append (charger.step c e) es fs
 
 -- it gets its sample and takes the broadcast, in one order or the other
-pub tick-charger : (P : Charger → Type 0) (j : Joint) (t : Tick) → BothSound j → accepted (j .pack) (eventOf (tick t)) ≡ true → 3 ≤ t .reply
+pub tick-charger : (P : Charger → Type 0) (j : Joint) (t : Tick) → BothSound j → accepted (j .pack) (packSample t) ≡ true → 3 ≤ t .reply
     → P (broadcastTaken (chargerSampledOf (j .charger) (t .charger)) (movedOf (j .pack .pack) (t .pack)))
     → P (chargerSampledOf (broadcastTaken (j .charger) (movedOf (j .pack .pack) (t .pack))) (t .charger))
     → P (happen j (tick t) .charger)
@@ -78,7 +78,7 @@ tick-charger P j t (s, k) a l first last =
 
 -- ---- the pack at a tick
 
-module _ (j : Joint) (t : Tick) (a : accepted (j .pack) (eventOf (tick t)) ≡ true) where
+module _ (j : Joint) (t : Tick) (a : accepted (j .pack) (packSample t) ≡ true) where
   -- at the moment of sending
   abbrev pub sending : Pack
   sending = movedOf (j .pack .pack) (t .pack)
@@ -107,6 +107,12 @@ pub timer-decides : (p : Pack) (x : Sample) → p .host .ChargerMode ≡ false
     → (movedOf p x .timers .charger ≡ min 30000 (p .timers .charger + gap p x)) × (chargerGoes (movedOf p x) ≡ leb 30000 (movedOf p x .timers .charger))
 unfolding chargerGoes movedOf
 timer-decides p x m = (moved-charger p x ∙ ap (λ (b : Bool). cond b 0 (min 30000 (p .timers .charger + gap p x))) m, simp m)
+
+-- ---- what the charger is asked
+
+-- it stays as it is
+pub asked-stays : (j : Joint) (c : charger.Call) → Fair j (asks c) → happen j (asks c) .charger ≡ j .charger
+asked-stays j c f = idle-keeps (j .charger) c f
 
 -- ---- host traffic
 

@@ -15,12 +15,12 @@ use Rattle.charger.specs.declared.Charger.{Charger}
 use Rattle.clock.specs.Sample.{movedOf}
 use Rattle.clock_laws.specs.Steps.{gap}
 use Rattle.joined.proofs.Delivered.{broadcastTaken}
-use Rattle.joined.proofs.Steps.{BothSound, happen-sound, tick-charger, tick-timer, tick-terminates, timer-decides, host-untouched}
-use Rattle.joined.specs.Joined.{Joint, Tick, Happening, tick, host, eventOf, eventsOf, happen, Fair, AllFair, Throughout, Within}
+use Rattle.joined.proofs.Steps.{BothSound, happen-sound, tick-charger, tick-timer, tick-terminates, timer-decides, asked-stays, host-untouched}
+use Rattle.joined.specs.Joined.{Joint, Tick, Happening, tick, host, asks, eventsOf, happen, Fair, AllFair, Throughout, Within}
 use Rattle.joined.specs.Promises.{Terminating, Off, JoinedStops, StopsIn30999}
 use Rattle.pack.specs.declared.Pack.{Pack}
 use Rattle.runs.proofs.Histories.{timers-of, took}
-use Rattle.runs.specs.Events.{passes, timeOf}
+use Rattle.runs.specs.Events.{timeOf}
 use Rattle.status.specs.Status.{alarmWord}
 use Rattle.words.proofs.Integers.{split}
 
@@ -64,6 +64,7 @@ zero-stays j (tick t) s f (on, mode) z =
     tick-asks j t s f
     ∙ either (λ (n : ℕ). n ≡ 0) (chargerGoes q) _ _ (asks-none q (sym (tick-terminates j t (f .0)) ∙ on)) z
 zero-stays j (host c) s f t z = z
+zero-stays j (asks c) s f t z = ap (λ (d : Charger). d .ChargingCurrent .word) (asked-stays j c f) ∙ z
 
 -- a request of 0 gives no current
 zero-off : (c : Charger) → c .ChargingCurrent .word ≡ 0 → currentOf c ≡ 0
@@ -79,7 +80,8 @@ stays-off j (e ∷ hs) s (f, fs) (t, ts) z = (
 
 -- ---- what comes in the rest comes in the whole
 
-later : (most passed : ℕ) (P : Joint → Type 0) (j : Joint) (h : Happening) (hs : List Happening) → passes (j .pack) (eventOf h) ≡ passed
+later : (most passed : ℕ) (P : Joint → Type 0) (j : Joint) (h : Happening) (hs : List Happening)
+    → ((rest : List Happening) → timeOf (j .pack) (eventsOf (h ∷ rest)) ≡ passed + timeOf (happen j h .pack) (eventsOf rest))
     → passed ≤ most → Within (most - passed) P (happen j h) hs → Within most P j (h ∷ hs)
 later most passed P j h hs e m w =
     record {
@@ -87,7 +89,7 @@ later most passed P j h hs e m w =
       at = w .at;
       after = w .after;
       splits = ap (λ (r : List Happening). h ∷ r) (w .splits);
-      soon = omega (arith, w .soon, e, m);
+      soon = omega (arith, w .soon, e (w .before ++ tick (w .at) ∷ []), m);
       lasts = w .lasts;
     }
 
@@ -104,8 +106,11 @@ module _ (Kept Inv Good : Joint → Type 0)
   waits j [] most s f k i h m = absurd (omega (arith, h, timers-of (j .pack) (s .0) .charger))
   waits j (host c ∷ hs) most s (f, fs) (k, ks) i h m =
       let same = host-untouched (j .pack) c .0 (clear (happen j (host c)) (now-true Kept (happen j (host c)) hs ks)) in
-      later most 0 Good j (host c) hs refl (omega arith)
+      later most 0 Good j (host c) hs (λ rest. refl) (omega arith)
       (waits (happen j (host c)) hs (most - 0) (happen-sound j (host c) s) fs ks (keeps j (host c) s f i) (omega (arith, h, same)) (omega (arith, m, same)))
+  waits j (asks c ∷ hs) most s (f, fs) (k, ks) i h m =
+      later most 0 Good j (asks c) hs (λ rest. omega arith) (omega arith)
+      (waits (happen j (asks c)) hs (most - 0) (happen-sound j (asks c) s) fs ks (keeps j (asks c) s f i) h (omega (arith, m)))
   waits j (tick t ∷ hs) most s (f, fs) (k, ks) i h m =
       let p = j .pack .pack in
       let q = movedOf p (t .pack) in
@@ -116,7 +121,7 @@ module _ (Kept Inv Good : Joint → Type 0)
       (λ (less : p .timers .charger + gap p (t .pack) < 30000).
       let quiet : chargerGoes q ≡ false = d .1 ∙ lt-leb 30000 (q .timers .charger) (omega (arith, d .0, less)) in
       let timer = tick-timer j t (f .0) ∙ ap (λ (b : Bool). cond b 0 (q .timers .charger)) quiet ∙ d .0 in
-      later most (gap p (t .pack)) Good j (tick t) hs time (omega (arith, less, m))
+      later most (gap p (t .pack)) Good j (tick t) hs (λ rest. ap (λ (n : ℕ). n + timeOf (happen j (tick t) .pack) (eventsOf rest)) time) (omega (arith, less, m))
       (waits (happen j (tick t)) hs (most - gap p (t .pack)) (happen-sound j (tick t) s) fs ks (keeps j (tick t) s f i)
       (omega (arith, h, timer, time, less)) (omega (arith, m, timer, less))))
       (λ (more : 30000 ≤ p .timers .charger + gap p (t .pack)).

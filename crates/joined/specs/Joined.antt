@@ -1,8 +1,9 @@
--- Request R-7: pack and charger joined on one clock, every broadcast delivered as writes, any host traffic with the pack, nobody else writing to the charger.
+-- Request R-7: pack and charger joined on one clock, every broadcast delivered as writes, any traffic of hosts with the pack, nobody else writing to the charger.
 -- Assumes nothing.
 use Prim.Native.Nat.{ℕ, zero, suc, _+_, _≤_}
 use mathlib.Core.Bool.{Bool, true, false, cond}
-use mathlib.Core.List.{List, [], _∷_, _++_, map}
+use mathlib.Core.List.{List, [], _∷_, _++_}
+use mathlib.Core.Logic.{_⊎_}
 use mathlib.Core.Path.{_≡_}
 use Rattle.bus_laws.specs.Calls.{Call}
 use Rattle.charger.specs.Delivered.{messageAt}
@@ -10,10 +11,11 @@ use Rattle.charger.specs.declared.Charger.{Charger}
 use Rattle.charger_laws.specs.Events as charger
 use Rattle.clock.specs.Broadcast.{sampleOf}
 use Rattle.clock.specs.Sample.{elapsedOf}
+use Rattle.commands.specs.Answers.{served}
 use Rattle.frame.specs.Broadcasts.{messageSize}
 use Rattle.pack.specs.declared.Sample.{Sample}
 use Rattle.pack.specs.declared.State.{State}
-use Rattle.runs.specs.Events.{Event, sample, call, step, accepted, sent, timeOf}
+use Rattle.runs.specs.Events.{Event, sample, call, run, accepted, sent, timeOf}
 
 -- ---- what happens
 
@@ -30,18 +32,26 @@ pub record Tick : Type 0 where
   pub reply : ℕ
   pub first : Bool
 
--- a tick, or a call of the host to the pack
+-- a tick, a call of a host to the pack, or one to the charger
 pub data Happening : Type 0 where
   tick : Tick → Happening
   host : Call → Happening
+  asks : charger.Call → Happening
 
--- what it is to the pack: an event of its histories
-abbrev pub eventOf : Happening → Event
-eventOf (tick t) = sample (t .pack) (t .room)
-eventOf (host c) = call c
+-- a tick's sample, as an event of the pack's histories
+abbrev pub packSample : Tick → Event
+packSample t = sample (t .pack) (t .room)
 
+-- what a happening is to the pack
+abbrev pub packEvents : Happening → List Event
+packEvents (tick t) = packSample t ∷ []
+packEvents (host c) = call c ∷ []
+packEvents (asks c) = []
+
+-- so its history
 abbrev pub eventsOf : List Happening → List Event
-eventsOf hs = map eventOf hs
+eventsOf [] = []
+eventsOf (h ∷ hs) = packEvents h ++ eventsOf hs
 
 -- ---- a broadcast's way to the charger
 
@@ -52,7 +62,7 @@ cut plain bytes at (suc n) = messageAt plain bytes at ∷ cut plain bytes (at + 
 
 -- the messages that the pack sends at a tick; `sent` is what its call puts at the front of the lent room (`runs` `sent-is-placed`)
 abbrev pub messagesFrom : State → Tick → List (List ℕ)
-messagesFrom s t = cut (s .pack .settings .plain) (sent s (eventOf (tick t))) 0 (sampleOf s (t .pack) (t .room) .messages)
+messagesFrom s t = cut (s .pack .settings .plain) (sent s (packSample t)) 0 (sampleOf s (t .pack) (t .room) .messages)
 
 -- each is delivered as a write
 abbrev pub deliveries : ℕ → List (List ℕ) → List charger.Event
@@ -65,10 +75,11 @@ chargerEvents s (tick t) =
     cond (t .first) (charger.sample (t .charger) ∷ deliveries (t .reply) (messagesFrom s t))
     (deliveries (t .reply) (messagesFrom s t) ++ charger.sample (t .charger) ∷ [])
 chargerEvents s (host c) = []
+chargerEvents s (asks c) = charger.call c ∷ []
 
 -- what it leaves
 abbrev pub happen : Joint → Happening → Joint
-happen j h = record { pack = step (j .pack) (eventOf h); charger = charger.run (j .charger) (chargerEvents (j .pack) h) }
+happen j h = record { pack = run (j .pack) (packEvents h); charger = charger.run (j .charger) (chargerEvents (j .pack) h) }
 
 abbrev pub afterAll : Joint → List Happening → Joint
 afterAll j [] = j
@@ -80,12 +91,14 @@ afterAll j (h ∷ hs) = afterAll (happen j h) hs
 abbrev pub gapOf : Joint → Tick → ℕ
 gapOf j t = elapsedOf (t .pack .counter) (j .pack .pack .latest .counter)
 
--- at a tick: the pack's sample is accepted, the charger has room for a reply, one clock (the same time elapses for both), at most 1 s after the sample before
+-- at a tick: the pack's sample is accepted, the charger has room for a reply, one clock (the same time elapses for both), at most 1 s after the sample before;
+-- nobody else writes to the charger: whatever it is asked is a read, or refused
 abbrev pub Fair : Joint → Happening → Type 0
 Fair j (tick t) =
-    (accepted (j .pack) (eventOf (tick t)) ≡ true) × (3 ≤ t .reply)
+    (accepted (j .pack) (packSample t) ≡ true) × (3 ≤ t .reply)
     × (elapsedOf (t .charger .counter) (j .charger .latest .counter) ≡ gapOf j t) × (gapOf j t ≤ 1000)
 Fair j (host c) = Unit {0}
+Fair j (asks c) = (c .read ≡ true) ⊎ (served (charger.answer (j .charger) c) ≡ false)
 
 abbrev pub AllFair : Joint → List Happening → Type 0
 AllFair j [] = Unit {0}

@@ -8,7 +8,7 @@ use Rattle.alarms.specs.Alarms.{terminateCharge, chargerAlarm, chargingCurrent}
 use Rattle.broadcasts.specs.Broadcasts.{chargerGoes}
 use Rattle.charger.specs.Charger.{alarmInhibited, currentOf, setUpOf as chargerSetUpOf, soundOf as chargerSound}
 use Rattle.clock.specs.Sample.{movedOf}
-use Rattle.joined.specs.Joined.{Joint, Tick, Happening, tick, eventOf, eventsOf, happen, afterAll, AllFair, Throughout, Within}
+use Rattle.joined.specs.Joined.{Joint, Tick, Happening, tick, packSample, eventsOf, happen, afterAll, AllFair, Throughout, Within}
 use Rattle.pack.specs.Sound.{soundOf}
 use Rattle.pack.specs.declared.Pack.{Pack}
 use Rattle.pack.specs.declared.Sample.{Sample}
@@ -96,7 +96,7 @@ ReturnsFromAnAlarm =
 -- where charger words go, an alarm in the same broadcast is undone at once: the words come behind it (RULES 14.15)
 abbrev pub WordsUndoAlarm : Type 0
 WordsUndoAlarm =
-    (j : Joint) (t : Tick) → soundOf (j .pack) ≡ true → chargerSound (j .charger) ≡ true → accepted (j .pack) (eventOf (tick t)) ≡ true → 3 ≤ t .reply
+    (j : Joint) (t : Tick) → soundOf (j .pack) ≡ true → chargerSound (j .charger) ≡ true → accepted (j .pack) (packSample t) ≡ true → 3 ≤ t .reply
     → chargerGoes (movedOf (j .pack .pack) (t .pack)) ≡ true → alarmInhibited (happen j (tick t) .charger) ≡ false
 
 -- with no current above 0 TERMINATE_CHARGE is clear, and the words ask for set-up's ChargingCurrent, however hot the pack is (RULES 14.15)
