@@ -336,7 +336,7 @@ uint32_t snatchblock_transact(uint8_t *area, size_t area_length, const uint8_t *
  * Its current is the last ChargingCurrent taken. It is 0 before any; while inhibited; after an alarm, until both
  * requests were written again; with a ChargingVoltage of 0 or none yet; and once samples counted 175 s with neither
  * request: the count stops there, and a new request starts it again. A message carries no time, so that the count begins
- * at the sample before the request: silence stops the charger up to one sample early, never late.
+ * at the sample before the request: the charger is off at the first sample after 175 s of silence, or one sample earlier.
  *
  * Nothing is kept over a time without power. Set the charger up whenever its power comes back and whenever a pack is put
  * in: what another pack asked for, or a host inhibited, doesn't count for it.
