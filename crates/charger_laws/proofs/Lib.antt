@@ -4,3 +4,4 @@ pub mod Exchanges
 pub mod Silence
 pub mod Alarms
 pub mod Status
+pub mod Last

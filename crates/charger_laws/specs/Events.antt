@@ -1,7 +1,7 @@
 -- What happens to a charger: samples and calls of any kind, in any order.
 -- Assumes nothing.
 use Prim.Native.Nat.{ℕ, _+_, _<_}
-use mathlib.Core.Bool.{Bool, true, false, cond, _&&_}
+use mathlib.Core.Bool.{Bool, true, false, cond, _&&_, _||_}
 use mathlib.Core.List.{List, [], _∷_, _++_}
 use mathlib.Core.Path.{_≡_}
 use lib.Dec.{eqb}
@@ -17,6 +17,7 @@ use Rattle.frame.specs.declared.Request.{Request}
 use Rattle.frame.specs.declared.Request.the-variants.{Refused, Read, Write}
 use Rattle.frame_laws.specs.Requests.{WriteBytes}
 use Rattle.pack.specs.declared.Sample.{Sample}
+use Rattle.written.specs.Written.{bitSet}
 
 -- ---- a call
 
@@ -95,7 +96,23 @@ abbrev pub takes : ℕ → Charger → Event → Bool
 takes k s (sample x) = false
 takes k s (call c) = served (answer s c) && writes k (asked (c .read) (c .bytes))
 
+-- a request that resets: a word for ChargerMode with POR_RESET or RESET_TO_ZERO
+abbrev pub resetting : Request → Bool
+resetting (Refused n) = false
+resetting (Read command) = false
+resetting (Write command word checked) = eqb command 0x12 && (bitSet 2 word || bitSet 3 word)
+
+-- an event by which such a word is taken
+abbrev pub resets : Charger → Event → Bool
+resets s (sample x) = false
+resets s (call c) = served (answer s c) && resetting (asked (c .read) (c .bytes))
+
 -- none is taken by events
+abbrev pub NoReset : Charger → List Event → Type 0
+NoReset s [] = Unit {0}
+NoReset s (e ∷ es) = (resets s e ≡ false) × NoReset (step s e) es
+
+-- no word for this command is taken by events
 abbrev pub NoneTaken : ℕ → Charger → List Event → Type 0
 NoneTaken k s [] = Unit {0}
 NoneTaken k s (e ∷ es) = (takes k s e ≡ false) × NoneTaken k (step s e) es

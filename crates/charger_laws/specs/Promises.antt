@@ -12,7 +12,7 @@ use Rattle.charger.specs.Charger.{setUpOf, soundOf, alarmInhibited, currentOf, 
 use Rattle.charger.specs.Transact.{outcome, transactAnswer, transactOf, replyRoom}
 use Rattle.charger.specs.Written.{endsCharge}
 use Rattle.charger.specs.declared.Charger.{Charger}
-use Rattle.charger_laws.specs.Events.{Call, result, answer, reply, exchange, Reads, Writes, Exchanged, Event, sample, call, step, run, timeOf, NoneTaken}
+use Rattle.charger_laws.specs.Events.{Call, result, answer, reply, exchange, Reads, Writes, Exchanged, Event, sample, call, step, run, timeOf, NoReset, NoneTaken}
 use Rattle.commands.specs.Answers.{served}
 use Rattle.frame.specs.Transactions.{readBytes}
 use Rattle.frame_laws.specs.Exchanges.{Accepts, FarApart}
@@ -131,7 +131,14 @@ LastRequest =
     (s : Charger) → s .ChargingCurrent .taken ≡ true → s .inhibited ≡ false → alarmInhibited s ≡ false → asksFor (s .ChargingVoltage) ≡ true → s .count < 175000
     → currentOf s ≡ s .ChargingCurrent .word
 
--- so by events at which nothing is taken its current stays, until the count comes to 175,000
+-- the last ChargingCurrent: what a taken write of 14 leaves stands, whatever happens, until another is taken or a reset (INHIBIT_CHARGE resets nothing)
+abbrev pub LastTaken : Type 0
+LastTaken =
+    (s : Charger) (c : Call) (word : ℕ) (es : List Event) → soundOf s ≡ true → 3 ≤ c .room → Writes c 0x14 word
+    → NoneTaken 0x14 (result s c .state) es → NoReset (result s c .state) es
+    → (run s (call c ∷ es) .ChargingCurrent .taken ≡ true) × (run s (call c ∷ es) .ChargingCurrent .word ≡ word)
+
+-- by events at which nothing is taken its current stays, until the count comes to 175,000
 abbrev pub HoldsOn : Type 0
 HoldsOn =
     (s : Charger) (es : List Event) → soundOf s ≡ true
@@ -169,7 +176,7 @@ StatusBits =
     ≡ s .inhibited ∷ false ∷ voltageNotMet s ∷ currentNotMet s ∷ true ∷ false ∷ false ∷ false
     ∷ false ∷ false ∷ false ∷ false ∷ alarmInhibited s ∷ false ∷ true ∷ true ∷ []
 
--- both requests' comparisons are those of the integers that were measured
+-- a ChargingCurrent that isn't met is above the integer that was measured
 abbrev pub NotMetTrue : Type 0
 NotMetTrue =
     (s : Charger) (x : Sample) → SampleFits x → s .latest ≡ latestOf x

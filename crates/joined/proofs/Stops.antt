@@ -17,7 +17,7 @@ use Rattle.clock_laws.specs.Steps.{gap}
 use Rattle.joined.proofs.Delivered.{broadcastTaken}
 use Rattle.joined.proofs.Steps.{BothSound, happen-sound, tick-charger, tick-timer, tick-terminates, timer-decides, asked-stays, host-untouched}
 use Rattle.joined.specs.Joined.{Joint, Tick, Happening, tick, host, asks, eventsOf, happen, Fair, AllFair, Throughout, Within}
-use Rattle.joined.specs.Promises.{Terminating, Off, JoinedStops, StopsIn30999}
+use Rattle.joined.specs.Promises.{Terminating, Off, StopsWithin, JoinedStops, StopsIn30999}
 use Rattle.pack.specs.declared.Pack.{Pack}
 use Rattle.runs.proofs.Histories.{timers-of, took}
 use Rattle.runs.specs.Events.{timeOf}
@@ -147,13 +147,12 @@ goes-off j t hs s (f, fs) (k, ks) i goes =
     ∙ ap (λ (b : Bool). cond b (chargingCurrent q) (j .charger .ChargingCurrent .word)) goes
     ∙ asks-none q (sym (tick-terminates j t (f .0)) ∙ on))
 
-off-within : (most : ℕ) → 30999 ≤ most → (j : Joint) (hs : List Happening) → BothSound j → AllFair j hs → Throughout Terminating j hs
-    → 30000 ≤ timeOf (j .pack) (eventsOf hs) → Within most Off j hs
-off-within most m j hs s f t l =
-    waits Terminating (λ (i : Joint). Unit {0}) Off (λ i e s r u. tt) goes-off (λ i x. x .1) j hs most s f t tt (omega (arith, l)) (omega (arith, m))
+off-within : (most : ℕ) → 30999 ≤ most → StopsWithin most
+off-within most m j hs h k f t l =
+    waits Terminating (λ (i : Joint). Unit {0}) Off (λ i e s r u. tt) goes-off (λ i x. x .1) j hs most (h, k) f t tt (omega (arith, l)) (omega (arith, m))
 
 pub joined-stops : JoinedStops
-joined-stops j hs h k = off-within 31000 (omega arith) j hs (h, k)
+joined-stops = off-within 31000 (omega arith)
 
 pub stops-in-30999 : StopsIn30999
-stops-in-30999 j hs h k = off-within 30999 (omega arith) j hs (h, k)
+stops-in-30999 = off-within 30999 (omega arith)

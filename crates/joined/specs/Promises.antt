@@ -27,17 +27,19 @@ abbrev pub Off : Joint → Type 0
 Off j = currentOf (j .charger) ≡ 0
 
 -- from any sound joint state, as that after the sample at which TERMINATE_CHARGE is set with CHARGER_MODE clear: if both last for 30 s or more,
--- the charger's current is 0 at some sample within 31 s and at every moment after it (RULES 14.14)
-abbrev pub JoinedStops : Type 0
-JoinedStops =
+-- the charger's current is 0 at some sample within so many milliseconds and at every moment after it (RULES 14.14)
+abbrev pub StopsWithin : ℕ → Type 0
+StopsWithin most =
     (j : Joint) (hs : List Happening) → soundOf (j .pack) ≡ true → chargerSound (j .charger) ≡ true
-    → AllFair j hs → Throughout Terminating j hs → 30000 ≤ timeOf (j .pack) (eventsOf hs) → Within 31000 Off j hs
+    → AllFair j hs → Throughout Terminating j hs → 30000 ≤ timeOf (j .pack) (eventsOf hs) → Within most Off j hs
+
+-- within 31 s (RULES 14.14)
+abbrev pub JoinedStops : Type 0
+JoinedStops = StopsWithin 31000
 
 -- and 30,999 ms are enough (RULES 14.14)
 abbrev pub StopsIn30999 : Type 0
-StopsIn30999 =
-    (j : Joint) (hs : List Happening) → soundOf (j .pack) ≡ true → chargerSound (j .charger) ≡ true
-    → AllFair j hs → Throughout Terminating j hs → 30000 ≤ timeOf (j .pack) (eventsOf hs) → Within 30999 Off j hs
+StopsIn30999 = StopsWithin 30999
 
 -- the charger gives current
 abbrev pub Gives : Joint → Type 0
