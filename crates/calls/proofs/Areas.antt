@@ -6,26 +6,20 @@ use mathlib.Core.Path.{_≡_, refl, sym, ap, ap₂, _∙_}
 use Prim.Native.Nat.{ℕ, _≤_}
 use native.Mathlib.Omega.{arith}
 use borrow.Author.Tests.{eq-eqb, ne-eqb, le-leb}
-use lib.ListN.{length, length-append}
+use lib.ListN.{length}
 use Rattle.area.specs.Area.{areaLength, areaOf, stateIn, isArea, loadedOf}
 use Rattle.area.specs.Area as area
 use Rattle.area.specs.declared.Loaded.{Loaded}
 use Rattle.bus.specs.Transact.{packSide, asked, transactAnswer, transactOf}
 use Rattle.bus.specs.Transact as bus
-use Rattle.commands.specs.Answers.{served, readBody, sideReply}
-use Rattle.commands.specs.Commands.{kindOf}
-use Rattle.commands.specs.declared.Kind.{Kind}
-use Rattle.commands.specs.declared.Kind.the-variants.{ReadWrite, ReadOnly, WriteOnly, Block, Optional, Reserved}
 use Rattle.bus.specs.declared.Transacted.{Transacted}
+use Rattle.commands.proofs.Answers.{reply-most}
 use Rattle.broadcasts.proofs.Sending.{at-most-20}
 use Rattle.clock.proofs.Outcome.{outcome}
 use Rattle.clock.specs.Broadcast.{sampledOf, sampleOf}
 use Rattle.clock.specs.Broadcast as clock
 use Rattle.clock.specs.Sample.{movedOf, elapsedOf}
 use Rattle.clock.specs.declared.Sampled.{Sampled}
-use Rattle.frame.specs.Transactions.{replyOf}
-use Rattle.frame.specs.declared.Request.{Request}
-use Rattle.frame.specs.declared.Request.the-variants.{Refused, Read, Write}
 use Rattle.start.specs.SetUp.{setUpRefused, packOf, setUpOf}
 use Rattle.pack.proofs.Soundness.{parts, pack-of-sound}
 use Rattle.pack.specs.Kept.{latestOf}
@@ -120,29 +114,12 @@ module _ (a : List ℕ) (x : Sample) (room : List ℕ) {l : Loaded} (loaded : l 
 
 -- ---- transactions
 
-body-most : (s : State) (service factory : List ℕ) (k : Kind) (command : ℕ) → length (readBody (packSide s service factory) command k) ≤ 33
-body-most s service factory ReadWrite command = omega arith
-body-most s service factory ReadOnly command = omega arith
-body-most s service factory Block command = omega (arith, block-short service factory command)
-body-most s service factory WriteOnly command = omega arith
-body-most s service factory Optional command = omega arith
-body-most s service factory Reserved command = omega arith
-
-one-more : (request body : List ℕ) → length body ≤ 33 → length (replyOf request body) ≤ 34
-unfolding replyOf
-one-more request body h = rw length-append (omega (arith, h))
-
 module _ (s : State) (service factory : List ℕ) (read : Bool) (bytes : List ℕ) (room : ℕ) where
-  reply-most : (q : Request) (answer : ℕ) → length (sideReply (packSide s service factory) bytes q answer) ≤ 34
-  reply-most (Refused n) answer = omega arith
-  reply-most (Read command) answer =
-      chosen (λ (l : List ℕ). length l ≤ 34) (served answer)
-      (λ e. one-more bytes (readBody (packSide s service factory) command (kindOf command)) (body-most s service factory (kindOf command) command)) (λ e. omega arith)
-  reply-most (Write command word checked) answer = omega arith
-
   pub transact-most : transactOf s service factory read bytes room .length ≤ 34
   unfolding transactOf
-  transact-most = reply-most (asked read bytes) (transactAnswer s service factory read bytes room)
+  transact-most =
+      reply-most (packSide s service factory) 33 (omega arith) (λ command. omega (arith, block-short service factory command)) bytes (asked read bytes)
+      (transactAnswer s service factory read bytes room)
 
 module _ (a service factory : List ℕ) (read : Bool) (bytes room : List ℕ) {l : Loaded} (loaded : l ≡ loadedOf a) where
   pub transact-none : (l .answer ≡ 0 → ⊥)

@@ -14,13 +14,8 @@ use Rattle.charger.specs.declared.Sampled.{Sampled}
 use Rattle.charger.specs.declared.Transacted.{Transacted}
 use Rattle.charger_area.specs.Area.{chargerIn, isChargerArea, loadedOf}
 use Rattle.charger_area.specs.declared.Loaded.{Loaded}
+use Rattle.commands.proofs.Answers.{reply-most}
 use Rattle.charger_calls.specs.Calls.{areaAfter, sampleNumber, sampleArea, transactNumber, transactArea, transactRoom}
-use Rattle.commands.specs.Answers.{served, readBody, sideReply}
-use Rattle.commands.specs.declared.Kind.{Kind}
-use Rattle.commands.specs.declared.Kind.the-variants.{ReadWrite, ReadOnly, WriteOnly, Block, Optional, Reserved}
-use Rattle.frame.proofs.Replies.{reply-length}
-use Rattle.frame.specs.declared.Request.{Request}
-use Rattle.frame.specs.declared.Request.the-variants.{Refused, Read, Write}
 use Rattle.pack.specs.declared.Sample.{Sample}
 use Rattle.rooms.proofs.Choice.{chosen}
 use Rattle.packed.specs.Packed.{packed}
@@ -60,25 +55,9 @@ module _ (a : List ℕ) (x : Sample) {l : Loaded} (loaded : l ≡ loadedOf a) wh
 
 -- ---- transactions
 
-body-most : (s : Charger) (k : Kind) (command : ℕ) → length (readBody (chargerSide s) command k) ≤ 2
-body-most s ReadWrite command = omega arith
-body-most s ReadOnly command = omega arith
-body-most s WriteOnly command = omega arith
-body-most s Block command = omega arith
-body-most s Optional command = omega arith
-body-most s Reserved command = omega arith
-
-reply-most : (s : Charger) (bytes : List ℕ) (q : Request) (answer : ℕ) → length (sideReply (chargerSide s) bytes q answer) ≤ 3
-reply-most s bytes (Refused n) answer = omega arith
-reply-most s bytes (Read command) answer =
-    let k = chargerSide s .kinds command in
-    chosen (λ (l : List ℕ). length l ≤ 3) (served answer)
-    (λ e. omega (arith, reply-length bytes (readBody (chargerSide s) command k), body-most s k command)) (λ e. omega arith)
-reply-most s bytes (Write command word checked) answer = omega arith
-
 pub transact-most : (s : Charger) (read : Bool) (bytes : List ℕ) (room : ℕ) {out : Transacted} → out ≡ transactOf s read bytes room → out .length ≤ 3
 unfolding transactOf
-transact-most s read bytes room eo = rw eo (reply-most s bytes (asked read bytes) (transactAnswer s read bytes room))
+transact-most s read bytes room eo = rw eo (reply-most (chargerSide s) 2 (omega arith) (λ command. omega arith) bytes (asked read bytes) (transactAnswer s read bytes room))
 
 module _ (a : List ℕ) (read : Bool) (bytes room : List ℕ) {l : Loaded} (loaded : l ≡ loadedOf a) where
   pub transact-none : (l .answer ≡ 0 → ⊥)

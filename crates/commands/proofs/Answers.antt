@@ -1,14 +1,18 @@
 -- What a request is answered and replied, by the numbers in their order.
 -- Assumes nothing.
-use Prim.Native.Nat.{ℕ, _<_, _≤_}
+use Prim.Native.Nat.{ℕ, _+_, _<_, _≤_}
 use mathlib.Core.Bool.{Bool, true, false, cond, not}
 use mathlib.Core.List.{List, []}
 use mathlib.Core.Path.{_≡_, refl, ap}
+use native.Mathlib.Omega.{arith}
 use borrow.Author.Tests.{lt-ltb, le-ltb}
 use lib.Dec.{ltb}
-use Rattle.commands.specs.Answers.{Side, writeAnswer, requestAnswer, sideAnswer, served, sideReply}
+use lib.ListN.{length}
+use Rattle.commands.specs.Answers.{Side, writeAnswer, requestAnswer, sideAnswer, served, readBody, sideReply}
 use Rattle.commands.specs.declared.Kind.{Kind}
 use Rattle.commands.specs.declared.Kind.the-variants.{ReadWrite, ReadOnly, WriteOnly, Block, Optional, Reserved}
+use Rattle.frame.proofs.Replies.{reply-length}
+use Rattle.frame.specs.Transactions.{replyOf}
 use Rattle.frame.specs.declared.Request.{Request}
 use Rattle.frame.specs.declared.Request.the-variants.{Refused, Read, Write}
 
@@ -30,6 +34,29 @@ pub refused-reply : (d : Side) (bytes : List ℕ) (request : Request) (answer : 
 refused-reply d bytes (Refused n) answer e = refl
 refused-reply d bytes (Read command) answer e = ap (λ (b : Bool). cond b (sideReply d bytes (Read command) 0) []) e
 refused-reply d bytes (Write command word checked) answer e = refl
+
+-- what a read shows is a word of two bytes, or a block with its count
+body-most : (d : Side) (most command : ℕ) (k : Kind) → 2 ≤ most → length (d .block command) + 1 ≤ most → length (readBody d command k) ≤ most
+body-most d most command ReadWrite w b = omega (arith, w)
+body-most d most command ReadOnly w b = omega (arith, w)
+body-most d most command WriteOnly w b = omega arith
+body-most d most command Block w b = omega (arith, b)
+body-most d most command Optional w b = omega arith
+body-most d most command Reserved w b = omega arith
+
+-- a reply is that and its PEC
+pub reply-most : (d : Side) (most : ℕ) → 2 ≤ most → ((command : ℕ) → length (d .block command) + 1 ≤ most)
+    → (bytes : List ℕ) (request : Request) (answer : ℕ) → length (sideReply d bytes request answer) ≤ most + 1
+reply-most d most w b bytes (Refused n) answer = omega arith
+reply-most d most w b bytes (Read command) answer = go (served answer)
+  where
+    body : List ℕ
+    body = readBody d command (d .kinds command)
+
+    go : (v : Bool) → length (cond v (replyOf bytes body) []) ≤ most + 1
+    go true = omega (arith, reply-length bytes body, body-most d most command (d .kinds command) w (b command))
+    go false = omega arith
+reply-most d most w b bytes (Write command word checked) answer = omega arith
 
 -- a write that isn't answered 0 isn't served
 pub write-refused : (kind : Kind) → (writeAnswer kind ≡ 0 → ⊥) → served (writeAnswer kind) ≡ false
