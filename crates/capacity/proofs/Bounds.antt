@@ -1,11 +1,13 @@
 -- The one chosen of two, and bounds of the rules of capacity: charge up to full never shows above full.
 -- Assumes nothing.
-use Prim.Native.Nat.{ℕ, _/_, _≤_}
+use Prim.Native.Nat.{ℕ, _*_, _/_, _≤_, _<_}
 use mathlib.Core.Bool.{Bool, true, false, cond}
-use mathlib.Core.Path.{_≡_, refl}
+use mathlib.Core.Logic.{_↔_}
+use mathlib.Core.Path.{_≡_, refl, ap, _∙_}
 use native.Mathlib.Omega.{arith}
-use native.Mathlib.Nat.{mul-le-mul-right}
-use Rattle.capacity.specs.Capacity.{powerOf, energyOf, milliampMs}
+use native.Mathlib.Decide.{decLt}
+use native.Mathlib.Nat.{div-le-of-le-mul, div-lt-iff-lt-mul, mul-div-cancel, mul-le-mul-right}
+use Rattle.capacity.specs.Capacity.{powerOf, energyOf, milliampMs, percentOf}
 
 -- what holds of both holds of the one chosen
 pub either : {A : Type 0} (P : A → Type 0) (b : Bool) (x y : A) → P x → P y → P (cond b x y)
@@ -31,3 +33,21 @@ mAh-most charge full h = omega arith
 -- in 10 mWh, charge up to full shows at most full's, and so it does capped
 pub energy-most : (charge full voltage : ℕ) → charge ≤ milliampMs full → energyOf charge voltage ≤ powerOf full voltage
 energy-most charge full voltage h = omega (arith, mul-le-mul-right voltage h)
+
+-- in percent, charge up to full shows at most 100
+pub percent-most : (charge full : ℕ) → charge ≤ milliampMs full → percentOf charge full ≤ 100
+percent-most charge full h = div-le-of-le-mul (milliampMs full) (omega arith)
+
+-- and 100 exactly at full
+pub percent-full : (charge full : ℕ) → 0 < full → charge ≤ milliampMs full → (percentOf charge full ≡ 100) ↔ (charge ≡ milliampMs full)
+percent-full charge full h l = (λ e. go e (decLt charge top), λ e. ap (λ (n : ℕ). 100 * n / top) e ∙ mul-div-cancel 100 some)
+  where
+    top : ℕ
+    top = milliampMs full
+
+    some : 0 < top
+    some = omega (arith, h)
+
+    go : percentOf charge full ≡ 100 → Dec (charge < top) → charge ≡ top
+    go e (yes b) = absurd (omega (arith, e, div-lt-iff-lt-mul {k = top} {x = 100 * charge} {y = 100} some .1 (omega arith)))
+    go e (no n) = omega (arith, l, n)
