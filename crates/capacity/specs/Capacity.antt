@@ -24,10 +24,6 @@ cappedWord x = min 65535 x
 abbrev pub percentOf : ℕ → ℕ → ℕ
 percentOf charge capacity = 100 * charge / milliampMs capacity
 
--- 0D: the smaller of 100 and floor(100 × charge ÷ full) (RULES 6.12)
-abbrev pub relativeOf : ℕ → ℕ → ℕ
-relativeOf charge full = min 100 (percentOf charge full)
-
 -- bit 4 of 16: set at charge 0, cleared at 0D of 20 or more, else kept (RULES 6.23)
 abbrev pub fullyDischargedOf : Bool → ℕ → ℕ → Bool
-fullyDischargedOf before charge full = cond (eqb charge 0) true (cond (leb 20 (relativeOf charge full)) false before)
+fullyDischargedOf before charge full = cond (eqb charge 0) true (cond (leb 20 (percentOf charge full)) false before)

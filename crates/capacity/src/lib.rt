@@ -1,7 +1,7 @@
 // Products from 16-bit parts, and the rules of capacity: 10 mWh, percent and bit 4. Only our own crates call these.
 ghost use mathlib.Core.Path.{_≡_};
 ghost use Prim.Native.Nat.{_+_, _*_, _%_, _^_, _≤_, _<_};
-ghost use Rattle.capacity.specs.Capacity.{powerOf, energyOf, cappedWord, milliampMs, percentOf, relativeOf, fullyDischargedOf};
+ghost use Rattle.capacity.specs.Capacity.{powerOf, energyOf, cappedWord, milliampMs, percentOf, fullyDischargedOf};
 
 // 16 bits by 16: the one multiply that the pack's processor has, and the only one here.
 pub fn product16(a: u16, b: u16) -> u32
@@ -74,18 +74,17 @@ pub fn percent(charge: u64, capacity: u16) -> u64
     product(charge, 100) / milliamp_ms(capacity)
 }
 
-// RelativeStateOfCharge.
+// RelativeStateOfCharge: with charge up to full it is at most 100 by itself.
 pub fn relative(charge: u64, full: u16) -> u16
-    requires { ⌜ (charge ≤ 65535 * 3600000) × (0 < full) ⌝ }
-    ensures { λ r. ⌜ r ≡ relativeOf charge full ⌝ }
+    requires { ⌜ (0 < full) × (charge ≤ milliampMs full) ⌝ }
+    ensures { λ r. ⌜ r ≡ percentOf charge full ⌝ }
 {
-    let p = percent(charge, full);
-    if p < 100 { p as u16 } else { 100 }
+    percent(charge, full) as u16
 }
 
 // FULLY_DISCHARGED after charge has moved.
 pub fn fully_discharged(before: bool, charge: u64, full: u16) -> bool
-    requires { ⌜ (charge ≤ 65535 * 3600000) × (0 < full) ⌝ }
+    requires { ⌜ (0 < full) × (charge ≤ milliampMs full) ⌝ }
     ensures { λ r. ⌜ r ≡ fullyDischargedOf before charge full ⌝ }
 {
     if charge == 0 {

@@ -1,36 +1,27 @@
--- RelativeStateOfCharge is at most 100 without a cap, and 100 exactly when charge is full.
+-- RelativeStateOfCharge is at most 100 without a cap, and 100 exactly when charge is full; with a cap it and bit 4 were the same.
 -- Assumes nothing.
-use mathlib.Core.Bool.{Bool, true, false}
-use mathlib.Core.Logic.{_↔_}
-use mathlib.Core.Path.{_≡_, refl, sym, _∙_}
-use borrow.Author.Tests.{eq-eqb, eqb-true}
+use Prim.Native.Nat.{ℕ, _*_, _/_, min}
+use mathlib.Core.Bool.{Bool, true, false, cond}
+use mathlib.Core.Path.{_≡_, refl, sym, ap, _∙_}
+use borrow.Author.Tests.{eq-eqb, eqb-true, le-leb, lt-leb, leb-true, leb-false}
 use native.Mathlib.Omega.{arith}
+use lib.Dec.{eqb, leb}
 use Rattle.alarms.specs.Alarms.{chargeFull}
 use Rattle.capacity.proofs.Bounds.{percent-most, percent-full}
+use Rattle.capacity.specs.Capacity.{percentOf}
 use Rattle.gauge.specs.Word.{givenOf}
 use Rattle.gauge_laws.proofs.Bits.{bits-stand}
-use Rattle.gauge_laws.specs.Hundred.{PercentMost, HundredExactly, HundredShown, SameWithoutCap}
+use Rattle.gauge_laws.specs.Hundred.{RelativeMost, HundredExactly, HundredShown, RelativeOfBefore, BitOfBefore}
 use Rattle.gauge_laws.specs.Promises.{digit}
-use Rattle.pack.proofs.Soundness.{parts, pack-of-sound, code-of-sound, tank-facts}
-use Rattle.pack.specs.Facts.{TankFacts}
-use Rattle.pack.specs.Sound.{soundOf}
-use Rattle.pack.specs.declared.State.{State}
+use Rattle.pack.proofs.Soundness.{tank-of-sound, code-of-sound}
 
-tank-of : (s : State) → soundOf s ≡ true → TankFacts (s .pack .tank)
-tank-of s h = tank-facts (s .pack .tank) (parts (s .pack) (pack-of-sound s h) .tank)
-
-pub relative-most : PercentMost
-relative-most s h = percent-most (s .pack .tank .charge) (s .pack .tank .full) (tank-of s h .charge)
-
-pub same-without-cap : SameWithoutCap
+pub relative-most : RelativeMost
 unfolding givenOf
-same-without-cap s h = omega (arith, relative-most s h)
+relative-most s h = percent-most (s .pack .tank .charge) (s .pack .tank .full) (tank-of-sound s h .charge)
 
 pub hundred-exactly : HundredExactly
-hundred-exactly s h =
-    let f = tank-of s h in
-    let k = percent-full (s .pack .tank .charge) (s .pack .tank .full) (f .full) (f .charge) in
-    (λ e. k .0 (sym (same-without-cap s h) ∙ e), λ e. same-without-cap s h ∙ k .1 e)
+unfolding givenOf
+hundred-exactly s h = let f = tank-of-sound s h in percent-full (s .pack .tank .charge) (s .pack .tank .full) (f .full) (f .charge)
 
 digit-set : (on : Bool) → digit on ≡ 1 → on ≡ true
 digit-set true h = refl
@@ -44,3 +35,18 @@ hundred-shown s h =
       λ e. b ∙ simp (eq-eqb _ _ (k .0 e)),
       λ e. k .1 (eqb-true _ _ (digit-set (chargeFull (s .pack)) (sym b ∙ e))),
     )
+
+pub relative-of-before : RelativeOfBefore
+unfolding givenOf
+relative-of-before s h = omega (arith, relative-most s h)
+
+-- a cap of 100 hides no 20
+twenty : (n : ℕ) → leb 20 n ≡ leb 20 (min 100 n)
+twenty n = go (leb 20 n) refl
+  where
+    go : (b : Bool) → leb 20 n ≡ b → b ≡ leb 20 (min 100 n)
+    go true e = sym (le-leb 20 (min 100 n) (omega (arith, leb-true 20 n e)))
+    go false e = sym (lt-leb 20 (min 100 n) (omega (arith, leb-false 20 n e)))
+
+pub bit-of-before : BitOfBefore
+bit-of-before before charge full = ap (λ (b : Bool). cond (eqb charge 0) true (cond b false before)) (twenty (percentOf charge full))

@@ -7,7 +7,8 @@ use borrow.Author.Tests.{ltb-true, ltb-false, eqb-true}
 use native.Mathlib.Omega.{arith}
 use lib.Dec.{eqb, ltb}
 use Rattle.capacity.proofs.Bounds.{either, alike, chosen}
-use Rattle.gauge.specs.Word.{givenOf, wordAnswer}
+use Rattle.gauge.specs.Word.{givenOf, wordOf, wordAnswer}
+use Rattle.gauge_laws.proofs.Hundred.{relative-of-before}
 use Rattle.gauge_laws.specs.Before.{minutesIf, wordBefore}
 use Rattle.gauge_laws.specs.Minutes.{isTen, ofTimes, TenExactly, WordsOfBefore, TimeBitOfBefore, GivenTold}
 use Rattle.minutes.proofs.Laws.{cut-off-exactly, division-timed, times-told}
@@ -15,6 +16,7 @@ use Rattle.minutes.specs.Laws.{Timed}
 use Rattle.minutes.specs.Minutes.{timeOf, timeWord, givenWord, givenAnswer}
 use Rattle.minutes.specs.declared.Given.the-variants.{Until}
 use Rattle.minutes.specs.declared.Time.the-variants.{Minutes, Beyond}
+use Rattle.pack.specs.Sound.{soundOf}
 use Rattle.pack.specs.declared.Pack.{Pack}
 use Rattle.pack.specs.declared.State.{State}
 use Rattle.registers.specs.Registers.{averageCurrent, remainingCapacity}
@@ -37,10 +39,6 @@ word-of-before true capacity rate = go (eqb rate 0) (ltb 65534 q) refl
 pub time-bit-of-before : TimeBitOfBefore
 time-bit-of-before p = simp word-of-before
 
-pub words-of-before : WordsOfBefore
-unfolding givenOf wordBefore
-words-of-before s command = simp (chosen givenWord, word-of-before)
-
 either-ten : (b c : Bool) → _≡_ {A = ℕ} (cond b 10 (cond c 10 0)) (cond (b || c) 10 0)
 either-ten true c = refl
 either-ten false c = refl
@@ -52,6 +50,12 @@ at P command key here else = go (eqb command key) refl
     go : (b : Bool) → eqb command key ≡ b → P command
     go true e = subst P (sym (eqb-true command key e)) here
     go false e = else e
+
+pub words-of-before : WordsOfBefore
+unfolding givenOf wordBefore
+words-of-before s command =
+    at (λ n. (n ≡ 0x0D → soundOf s ≡ true) → wordOf s n ≡ wordBefore s n) command 0x0D (λ h. relative-of-before s (h refl))
+    (λ e h. simp (e, chosen givenWord, word-of-before))
 
 pub ten-exactly : TenExactly
 unfolding givenOf

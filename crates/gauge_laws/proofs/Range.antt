@@ -8,6 +8,7 @@ use Rattle.capacity.proofs.Bounds.{either, at-most}
 use Rattle.alarms.specs.Alarms.{terminateCharge}
 use Rattle.gauge.specs.Word.{givenOf}
 use Rattle.gauge_laws.proofs.Bits.{status-most}
+use Rattle.gauge_laws.proofs.Hundred.{relative-most}
 use Rattle.gauge_laws.specs.Promises.{WordsBelow}
 use Rattle.minutes.proofs.Laws.{time-word-below}
 use Rattle.minutes.specs.Minutes.{givenWord}
@@ -61,7 +62,7 @@ word-below s command h f =
     (row (eqb command 0x0A) _ _ (f .latest .current)
     (row (eqb command 0x0B) _ _ (average-word (p .recent) now (parts p (pack-of-sound s h) .recent) (f .latest .current))
     (row (eqb command 0x0C) _ _ (f .settings .MaxError)
-    (row (eqb command 0x0D) _ _ (omega arith)
+    (row (eqb command 0x0D) _ _ (omega (arith, relative-most s h))
     (row (eqb command 0x0E) _ _ (omega arith)
     (row (eqb command 0x0F) _ _ (omega (arith, remaining-at-most-full p (parts p (pack-of-sound s h) .tank), full))
     (row (eqb command 0x10) _ _ full

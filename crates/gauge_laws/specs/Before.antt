@@ -1,12 +1,13 @@
--- The words as they were before request R-6, kept to say that they are the same. Nothing else stands on these.
+-- The words as they were before requests R-6 and R-8, kept to say that they are the same. Nothing else stands on these.
 -- Assumes nothing.
 use Prim.Native.Nat.{ℕ, _*_, _/_, min}
-use mathlib.Core.Bool.{Bool, cond, not, _&&_}
-use lib.Dec.{eqb, ltb}
+use mathlib.Core.Bool.{Bool, true, false, cond, not, _&&_}
+use lib.Dec.{eqb, leb, ltb}
 use Rattle.alarms.specs.Alarms.{chargingCurrent}
+use Rattle.capacity.specs.Capacity.{percentOf}
 use Rattle.pack.specs.declared.Pack.{Pack}
 use Rattle.pack.specs.declared.State.{State}
-use Rattle.registers.specs.Registers.{batteryMode, averageCurrent, remainingCapacity, fullChargeCapacity, designCapacity, relativeStateOfCharge, absoluteStateOfCharge}
+use Rattle.registers.specs.Registers.{batteryMode, averageCurrent, remainingCapacity, fullChargeCapacity, designCapacity, absoluteStateOfCharge}
 use Rattle.status.specs.Status.{batteryStatus}
 use Rattle.times.specs.Times.{missing, atRateOK, rateOf}
 use Rattle.words.specs.Words.{above, below, sizeOf}
@@ -39,7 +40,15 @@ averageTimeToFullWord p = minutesIf (above (averageCurrent p)) (missing p) (rate
 abbrev pub timeWordLow : Pack → Bool
 timeWordLow p = not (eqb (p .host .RemainingTimeAlarm) 0) && ltb (timeToEmptyWordAt p (averageCurrent p)) (p .host .RemainingTimeAlarm)
 
--- every word; of 16 no bit but 8 stands on a time
+-- 0D had a cap (R-8): the smaller of 100 and floor(100 × charge ÷ full)
+abbrev pub relativeBefore : ℕ → ℕ → ℕ
+relativeBefore charge full = min 100 (percentOf charge full)
+
+-- bit 4 of 16 by it: set at charge 0, cleared at 0D of 20 or more, else kept
+abbrev pub fullyDischargedBefore : Bool → ℕ → ℕ → Bool
+fullyDischargedBefore before charge full = cond (eqb charge 0) true (cond (leb 20 (relativeBefore charge full)) false before)
+
+-- every word; of 16 no bit but 8 stands on a time, and bit 4 is kept
 unfoldable pub wordBefore : State → ℕ → ℕ
 wordBefore s command =
     cond (eqb command 0x00) (s .pack .host .ManufacturerAccess)
@@ -55,7 +64,7 @@ wordBefore s command =
     (cond (eqb command 0x0A) (s .pack .latest .current)
     (cond (eqb command 0x0B) (averageCurrent (s .pack))
     (cond (eqb command 0x0C) (s .pack .settings .MaxError)
-    (cond (eqb command 0x0D) (relativeStateOfCharge (s .pack))
+    (cond (eqb command 0x0D) (relativeBefore (s .pack .tank .charge) (s .pack .tank .full))
     (cond (eqb command 0x0E) (absoluteStateOfCharge (s .pack))
     (cond (eqb command 0x0F) (remainingCapacity (s .pack))
     (cond (eqb command 0x10) (fullChargeCapacity (s .pack))

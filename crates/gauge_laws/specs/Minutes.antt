@@ -1,4 +1,4 @@
--- Request R-6: which word reads are answered 10, and that every word is that of before.
+-- Request R-6: which word reads are answered 10, and that every word is that of before, R-8 too.
 -- Assumes nothing.
 use Prim.Native.Nat.{ℕ}
 use mathlib.Core.Bool.{Bool, true, cond, _&&_, _||_}
@@ -8,6 +8,7 @@ use Rattle.alarms.specs.Alarms.{remainingTimeLow}
 use Rattle.gauge.specs.Word.{givenOf, wordOf, wordAnswer}
 use Rattle.gauge_laws.specs.Before.{timeWordLow, wordBefore}
 use Rattle.minutes.specs.Laws.{beyond}
+use Rattle.pack.specs.Sound.{soundOf}
 use Rattle.pack.specs.declared.Pack.{Pack}
 use Rattle.pack.specs.declared.State.{State}
 use Rattle.registers.specs.Registers.{averageCurrent, remainingCapacity}
@@ -27,9 +28,9 @@ isTen p command =
 abbrev pub TenExactly : Type 0
 TenExactly = (s : State) (command : ℕ) → wordAnswer s command ≡ cond (isTen (s .pack) command) 10 0
 
--- 2. every word is that of before
+-- 2. every word is that of before, for every state; that of 0D, which had a cap, for every sound one
 abbrev pub WordsOfBefore : Type 0
-WordsOfBefore = (s : State) (command : ℕ) → wordOf s command ≡ wordBefore s command
+WordsOfBefore = (s : State) (command : ℕ) → (command ≡ 0x0D → soundOf s ≡ true) → wordOf s command ≡ wordBefore s command
 
 -- 3. and so is bit 8 of 16, of which the alarms go
 abbrev pub TimeBitOfBefore : Type 0

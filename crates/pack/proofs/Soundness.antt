@@ -127,10 +127,13 @@ pub pack-sound : (p : Pack) → SoundParts p → packSound p ≡ true
 unfolding packSound
 pack-sound p f = simp (f .settings, f .tank, f .toward, f .run, f .recent, f .timers)
 
--- a sound state's pack is sound, its error code at most 7, its count of seconds at most 60; and back
+-- a sound state's pack is sound, its charge at most full, its error code at most 7, its count of seconds at most 60; and back
 pub pack-of-sound : (s : State) → soundOf s ≡ true → packSound (s .pack) ≡ true
 unfolding soundOf
 pack-of-sound s h = and-eq-true-iff _ _ .0 h .0
+
+pub tank-of-sound : (s : State) → soundOf s ≡ true → TankFacts (s .pack .tank)
+tank-of-sound s h = tank-facts (s .pack .tank) (parts (s .pack) (pack-of-sound s h) .tank)
 
 pub code-of-sound : (s : State) → soundOf s ≡ true → s .error ≤ 7
 unfolding soundOf errorSound

@@ -5,7 +5,7 @@ use mathlib.Core.Bool.{Bool, cond}
 use Rattle.pack.specs.declared.Host.{Host}
 use Rattle.pack.specs.declared.Pack.{Pack}
 use Rattle.recent.specs.Recent.{averageOf}
-use Rattle.capacity.specs.Capacity.{powerOf, energyOf, cappedWord, percentOf, relativeOf}
+use Rattle.capacity.specs.Capacity.{powerOf, energyOf, cappedWord, percentOf}
 
 -- what bit k adds to a word
 abbrev pub bit : ℕ → Bool → ℕ
@@ -36,9 +36,9 @@ fullChargeCapacity p = capacityOf p (p .tank .full)
 unfoldable pub designCapacity : Pack → ℕ
 designCapacity p = capacityOf p (p .settings .DesignCapacity)
 
--- 0D RelativeStateOfCharge: the smaller of 100 and floor(100 × charge ÷ full) (RULES 6.12)
+-- 0D RelativeStateOfCharge: floor(100 × charge ÷ full) (RULES 6.12)
 abbrev pub relativeStateOfCharge : Pack → ℕ
-relativeStateOfCharge p = relativeOf (p .tank .charge) (p .tank .full)
+relativeStateOfCharge p = percentOf (p .tank .charge) (p .tank .full)
 
 -- 0E AbsoluteStateOfCharge: against design, capped at 65,535 (RULES 6.13)
 abbrev pub absoluteStateOfCharge : Pack → ℕ

@@ -7,14 +7,16 @@ use mathlib.Core.Path.{_≡_, refl, sym, ap, _∙_, subst}
 use lib.IntN.{ℤ, pos}
 use Rattle.clock_laws.proofs.Charge.{charge-true}
 use Rattle.clock_laws.specs.Steps.{gap}
+use Rattle.gauge_laws.proofs.Hundred.{relative-most}
 use Rattle.gauge_laws.proofs.Words.{remaining-word-most}
+use Rattle.pack.proofs.Soundness.{tank-of-sound}
 use Rattle.pack.specs.Kept.{latestOf}
 use Rattle.pack.specs.Sound.{soundOf}
 use Rattle.pack.specs.declared.Pack.{Pack}
 use Rattle.pack.specs.declared.Sample.{Sample}
 use Rattle.pack.specs.declared.State.{State}
 use Rattle.pack.specs.declared.Tank.{Tank}
-use Rattle.runs.proofs.Histories.{seen-through, still-keeps, step-sound, run-sound, took, tank-of}
+use Rattle.runs.proofs.Histories.{seen-through, still-keeps, step-sound, run-sound, took}
 use Rattle.runs.proofs.Measures.{sampled-measures, written-measures, set-up-sound, set-up-pack}
 use Rattle.runs.proofs.Tank.{tank-sampled}
 use Rattle.runs.specs.Closes.{closedBy, ClosesNone}
@@ -42,7 +44,7 @@ moved s x n xs h a c (f, fs) =
     let t = tank-sampled s x n a in
     let k = no-close (p .settings) (p .tank) (latestOf x) e c in
     let full : step s (sample x n) .pack .tank .full ≡ p .tank .full = ap (λ (u : Tank). u .full) t ∙ k .0 in
-    let charge = ap (λ (u : Tank). pos (u .charge)) t ∙ ap pos (k .1) ∙ charge-true (p .tank .charge) (p .tank .full) e x f (tank-of s h .charge) in
+    let charge = ap (λ (u : Tank). pos (u .charge)) t ∙ ap pos (k .1) ∙ charge-true (p .tank .charge) (p .tank .full) e x f (tank-of-sound s h .charge) in
     rw (full, charge, counter-of s x n a)
 
 over : (s : State) (es : List Event) → soundOf s ≡ true → History s es → Throughout ClosesNone s es → Signed16 (acceptedOf s es)
@@ -81,4 +83,4 @@ charge-since-close s x n es h a c t f =
     ∙ rw (charge, counter-of s x n a)
 
 pub charge-at-most-full : ChargeAtMostFull
-charge-at-most-full s es h = let g = run-sound s es h in (tank-of (run s es) g .charge, remaining-word-most (run s es) g)
+charge-at-most-full s es h = let g = run-sound s es h in (tank-of-sound (run s es) g .charge, remaining-word-most (run s es) g, relative-most (run s es) g)

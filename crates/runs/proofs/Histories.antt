@@ -19,8 +19,8 @@ use Rattle.commands.specs.Answers.{served}
 use Rattle.frame_laws.proofs.Requests.{write-is}
 use Rattle.frame.specs.declared.Request.{Request}
 use Rattle.frame.specs.declared.Request.the-variants.{Refused, Read, Write}
-use Rattle.pack.proofs.Soundness.{timers-facts, tank-facts, parts, pack-of-sound}
-use Rattle.pack.specs.Facts.{TimersFacts, TankFacts}
+use Rattle.pack.proofs.Soundness.{timers-facts, parts, pack-of-sound}
+use Rattle.pack.specs.Facts.{TimersFacts}
 use Rattle.pack.specs.Sound.{soundOf}
 use Rattle.pack.specs.declared.Pack.{Pack}
 use Rattle.pack.specs.declared.Sample.{Sample}
@@ -42,10 +42,6 @@ run-sound s (e ∷ es) h = run-sound (step s e) es (step-sound s e h)
 -- the timers of a sound state
 pub timers-of : (s : State) → soundOf s ≡ true → TimersFacts (s .pack .host) (s .pack .timers)
 timers-of s h = timers-facts (s .pack .host) (s .pack .timers) (parts (s .pack) (pack-of-sound s h) .timers)
-
--- its tank
-pub tank-of : (s : State) → soundOf s ≡ true → TankFacts (s .pack .tank)
-tank-of s h = tank-facts (s .pack .tank) (parts (s .pack) (pack-of-sound s h) .tank)
 
 -- ---- an idle event
 

@@ -14,14 +14,14 @@ use Rattle.clock.specs.Broadcast.{sampledOf, sampleOf, servedSample, refusedSam
 use Rattle.clock.specs.Sample.{movedOf}
 use Rattle.clock.proofs.Outcome.{outcome}
 use Rattle.clock_laws.specs.Steps.{gap}
-use Rattle.pack.proofs.Soundness.{toward-fact, run-facts, parts, pack-of-sound}
+use Rattle.pack.proofs.Soundness.{toward-fact, run-facts, parts, pack-of-sound, tank-of-sound}
 use Rattle.pack.specs.Kept.{latestOf}
 use Rattle.pack.specs.Sound.{soundOf}
 use Rattle.pack.specs.declared.Pack.{Pack}
 use Rattle.pack.specs.declared.Sample.{Sample}
 use Rattle.pack.specs.declared.State.{State}
 use Rattle.pack.specs.declared.Tank.{Tank}
-use Rattle.runs.proofs.Histories.{step-sound, took, tank-of}
+use Rattle.runs.proofs.Histories.{step-sound, took}
 use Rattle.runs.proofs.Charge.{counter-of, charge-from}
 use Rattle.runs.proofs.Measures.{time-true}
 use Rattle.runs.specs.Events.{sample, step, answerTo}
@@ -42,8 +42,8 @@ unfolding sampledOf movedOf
 rested s x c h =
     let p = s .pack in
     let f = parts p (pack-of-sound s h) in
-    let k = at-rest (p .settings) (p .tank) (latestOf x) (gap p x) (no-word x c) (tank-of s h) (toward-fact (p .settings .DesignCapacity) (p .tank .toward) (f .toward)) in
-    (k .0, k .1, k .2, k .3, run-at-rest (p .settings) (p .tank) (latestOf x) (gap p x) (no-word x c) (tank-of s h) (run-facts (p .tank .run) (f .run)))
+    let k = at-rest (p .settings) (p .tank) (latestOf x) (gap p x) (no-word x c) (tank-of-sound s h) (toward-fact (p .settings .DesignCapacity) (p .tank .toward) (f .toward)) in
+    (k .0, k .1, k .2, k .3, run-at-rest (p .settings) (p .tank) (latestOf x) (gap p x) (no-word x c) (tank-of-sound s h) (run-facts (p .tank .run) (f .run)))
 
 pub no-current-no-charge : NoCurrentNoCharge
 no-current-no-charge s x n c = outcome (λ r. r .state .pack .tank .charge ≡ s .pack .tank .charge) s x n refl refl (λ h. rested s x c h .0)

@@ -126,11 +126,12 @@ ChargeSinceClose =
     → pos (run s (sample x n ∷ es) .pack .tank .charge)
     ≡ chargeOver (step s (sample x n) .pack .tank .full) (pos 0) (x .counter) (acceptedOf (step s (sample x n)) es)
 
--- charge is never above full, the learned one too, so 0F is never above 10
+-- charge is never above full, the learned one too, so 0F is never above 10, nor 0D above 100
 abbrev pub ChargeAtMostFull : Type 0
 ChargeAtMostFull =
     (s : State) (es : List Event) → soundOf s ≡ true
     → (run s es .pack .tank .charge ≤ milliampMs (run s es .pack .tank .full)) × (wordOf (run s es) 0x0F ≤ wordOf (run s es) 0x10)
+    × (wordOf (run s es) 0x0D ≤ 100)
 
 -- ---- what is sent
 

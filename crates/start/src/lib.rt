@@ -1,6 +1,6 @@
 // Set-up: the state at the first sample, or where it is refused the all-zero state.
 ghost use mathlib.Core.Path.{_≡_};
-ghost use Prim.Native.Nat.{_<_};
+ghost use Prim.Native.Nat.{_<_, _≤_};
 ghost use Rattle.start.specs.SetUp.{setUpOf, setUpRefused, packOf, settingsOf, hostOf, tankOf, zeroSettings, zeroHost, zeroLatest, zeroTank, zeroState};
 use pack::Host;
 use pack::Latest;
@@ -159,7 +159,7 @@ fn host_of(u: Setup) -> Host
 }
 
 fn tank_of(u: Setup) -> Tank
-    requires { ⌜ 0 < u .full ⌝ }
+    requires { ⌜ (0 < u .full) × (u .remaining ≤ u .full) ⌝ }
     ensures { λ r. ⌜ r ≡ tankOf u ⌝ }
 {
     let charge = capacity::milliamp_ms(u.remaining);
@@ -180,7 +180,7 @@ fn tank_of(u: Setup) -> Tank
 }
 
 fn pack_of(u: Setup, first: Sample) -> Pack
-    requires { ⌜ 0 < u .full ⌝ }
+    requires { ⌜ (0 < u .full) × (u .remaining ≤ u .full) ⌝ }
     ensures { λ r. ⌜ r ≡ packOf u first ⌝ }
 {
     let settings = settings_of(u);

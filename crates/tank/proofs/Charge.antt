@@ -2,11 +2,11 @@
 -- Assumes nothing.
 use Prim.Native.Nat.{ℕ, _+_, _-_, _*_, _<_, _≤_, min}
 use mathlib.Core.Bool.{Bool, true, false, cond}
-use mathlib.Core.Path.{_≡_, ap}
+use mathlib.Core.Path.{_≡_, refl, ap}
 use mathlib.Mathlib.Data.Bool.Basic.{or-eq-false-eq-eq-false-and-eq-false}
 use native.Mathlib.Nat.{mod-lt}
 use native.Mathlib.Omega.{arith}
-use Rattle.capacity.proofs.Bounds.{either, at-most}
+use Rattle.capacity.proofs.Bounds.{at-most}
 use Rattle.capacity.specs.Capacity.{milliampMs}
 use Rattle.cycles.specs.Cycles.{drawnBy}
 use Rattle.learning.specs.Learning.{countsOn, drawnIn, learned}
@@ -26,9 +26,11 @@ held false charge top flow h = omega arith
 pub charge-held : (charge full current elapsed : ℕ) → charge ≤ milliampMs full → chargeAfter charge full current elapsed ≤ milliampMs full
 charge-held charge full current elapsed h = held (below current) charge (milliampMs full) (sizeOf current * elapsed) h
 
-close-held : (b : Bool) (charge full new : ℕ) → charge ≤ milliampMs full → cond b 0 charge ≤ milliampMs (cond b new full)
-close-held true charge full new h = omega arith
-close-held false charge full new h = h
+-- a close leaves charge 0 and a new full; without one both stay: charge is at most full either way
+pub left-held : (b : Bool) (charge full new c f : ℕ) → c ≡ cond b 0 charge → f ≡ cond b new full
+    → 0 < new → 0 < full → charge ≤ milliampMs full → (0 < f) × (c ≤ milliampMs f)
+left-held true charge full new c f d e k l h = (omega arith, omega arith)
+left-held false charge full new c f d e k l h = (omega arith, omega arith)
 
 module _ (s : Settings) (t : Tank) (x : Latest) (elapsed : ℕ) where
   -- a sample leaves a sound tank sound
@@ -36,12 +38,9 @@ module _ (s : Settings) (t : Tank) (x : Latest) (elapsed : ℕ) where
   unfolding tankAfter
   after-sound h =
       let f = tank-facts t h in
-      let v = seenOf s t x elapsed in
-      tank-sound _
-      (record {
-        full = either (λ n. 0 < n) (closed s t x elapsed) (learned (t .run) v) (t .full) (omega arith) (f .full);
-        charge = close-held (closed s t x elapsed) (chargeMoved t x elapsed) (t .full) (learned (t .run) v) (charge-held (t .charge) (t .full) (x .current) elapsed (f .charge));
-      })
+      let new = learned (t .run) (seenOf s t x elapsed) in
+      let k = left-held (closed s t x elapsed) (chargeMoved t x elapsed) (t .full) new _ _ refl refl (omega arith) (f .full) (charge-held (t .charge) (t .full) (x .current) elapsed (f .charge)) in
+      tank-sound _ (record { full = k .0; charge = k .1 })
 
   -- what is kept toward the next cycle stays less than one design capacity
   pub toward-after : towardSound (s .DesignCapacity) (t .toward) ≡ true → towardSound (s .DesignCapacity) (tankAfter s t x elapsed .toward) ≡ true

@@ -6,7 +6,7 @@ use Rattle.registers.proofs.relative_state_of_charge.Statement.{stateme
 use Rattle.registers.proofs.relative_state_of_charge.Tie as tie
 
 relative-requires : tie.Need-relative-requires
-relative-requires c κs = let f = tank-facts (c .args .p .tank) (c .pre) in (omega (arith, f .charge), f .full)
+relative-requires c κs = let f = tank-facts (c .args .p .tank) (c .pre) in (f .full, f .charge)
 
 pub relative-state-of-charge-spec : {M : Type 1} → statement M
 relative-state-of-charge-spec = tie.close (tie.spec relative-requires (λ c. c .relative .ensures))

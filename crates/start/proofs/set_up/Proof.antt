@@ -12,7 +12,7 @@ unfolding setUpOf
 returns c = simp (c .zero .ensures, ← c .before .before .refused .ensures, c .before .if1 .taken)
 
 pack-of-requires : tie.Need-pack-of-requires
-pack-of-requires c κs = served (c .before .before .args .u) (sym (c .before .refused .ensures) ∙ c .if1 .left) .full
+pack-of-requires c κs = let f = served (c .before .before .args .u) (sym (c .before .refused .ensures) ∙ c .if1 .left) in (f .full, f .remaining)
 
 returns-2 : tie.Need-returns-2
 unfolding setUpOf

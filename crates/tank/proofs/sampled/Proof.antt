@@ -1,13 +1,12 @@
 -- `tank::sampled` meets its contract: each step by its own function's.
 -- Assumes nothing.
-use Prim.Native.Nat.{_*_, _<_, _≤_}
+use Prim.Native.Nat.{_≤_}
 use mathlib.Core.Path.{subst⁻¹}
 use borrow.Author.Needs.{needs}
 use native.Mathlib.Omega.{arith}
-use Rattle.capacity.proofs.Bounds.{either, at-most}
 use Rattle.pack.proofs.Soundness.{tank-facts, toward-fact, run-facts}
 use Rattle.tank.specs.Tank.{seenOf, tankAfter}
-use Rattle.tank.proofs.Charge.{held}
+use Rattle.tank.proofs.Charge.{held, left-held}
 use Rattle.tank.proofs.sampled.Statement.{statement}
 use Rattle.tank.proofs.sampled.Tie as tie
 
@@ -43,10 +42,7 @@ fully-discharged-requires c κs =
     let f = tank-facts (start .args .t) (start .pre .0) in
     let low : moved .result ≤ top .result =
     subst⁻¹ (λ n. n ≤ top .result) (moved .ensures) (held (falls .result) (start .args .t .charge) (top .result) (flow .result) (moved-requires at-moved κs)) in
-    let charge : level .result .charge ≤ 65535 * 3600000 =
-    subst⁻¹ (λ n. n ≤ 65535 * 3600000) (level .ensures .0) (at-most closed 0 (moved .result) (65535 * 3600000) (omega arith) (omega (arith, low, top .ensures .1))) in
-    let full : 0 < level .result .full = subst⁻¹ (λ n. 0 < n) (level .ensures .1) (either (λ n. 0 < n) closed _ (start .args .t .full) (omega arith) (f .full)) in
-    (omega (arith, charge, low, top .ensures .1), omega (arith, full, f .full))
+    left-held closed (moved .result) (start .args .t .full) _ (level .result .charge) (level .result .full) (level .ensures .0) (level .ensures .1) (omega arith) (f .full) (omega (arith, low, top .ensures .0))
 
 returns : tie.Need-returns
 unfolding tankAfter seenOf
