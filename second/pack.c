@@ -335,7 +335,7 @@ static uint16_t whole_word(const struct sb2_state *s, uint8_t command)
     case 0x0A: return (uint16_t)s->latest.current;
     case 0x0B: return (uint16_t)mean_current(s);
     case 0x0C: return s->settings.max_error;
-    case 0x0D: return capped(percent(s, s->tank.full_capacity), 100);
+    case 0x0D: return capped(percent(s, s->tank.full_capacity), 100); /* the cap that R-8 took from the pack */
     case 0x0E: return capped(percent(s, s->settings.design_capacity), 65535);
     case 0x0F: return remaining_word(s);
     case 0x10: return full_word(s);

@@ -350,8 +350,17 @@ static void capacities_at(int line, uint16_t remaining, uint16_t full, uint16_t 
 }
 #define CAPACITIES(remaining, full, cycles) capacities_at(__LINE__, remaining, full, cycles)
 
-/* The worked example that is proved of the definitions: 4,000 mAh by design, worn to 3,750; -1,000 mA for 3 h 30 min,
- * then for 15 min below the limit, then for 15 min more. A minute of charging in place of the close: nothing is learned. */
+/* 0D and 0E. */
+static void percents_at(int line, uint16_t of_full, uint16_t of_design)
+{
+    check_at(line, "RelativeStateOfCharge", word(0x0D), of_full);
+    check_at(line, "AbsoluteStateOfCharge", word(0x0E), of_design);
+}
+#define PERCENTS(of_full, of_design) percents_at(__LINE__, of_full, of_design)
+
+/* The worked examples that are proved of the definitions: 4,000 mAh by design, worn to 3,750; -1,000 mA for 3 h 30 min,
+ * then for 15 min below the limit, then for 15 min more; charged again, to one ms before full and to full. A minute of
+ * charging in place of the close: nothing is learned. */
 static void worked_example(void)
 {
     uint8_t low_area[sizeof area];
@@ -359,13 +368,21 @@ static void worked_example(void)
     CHECK(snatchblock_set_up(area, sizeof area, 4000, 4000, 4000, 14800, 0, 5, 0, 0, 0, 0, 4000, LIMIT, false, 16000, 0,
                              2981, counter), 0);
     CAPACITIES(4000, 4000, 5);
+    PERCENTS(100, 100);
     flow_at(12500, -1000, 12600000);
     CAPACITIES(500, 4000, 5);
+    PERCENTS(12, 12);
     memcpy(low_area, area, sizeof area);
     flow_at(11900, -1000, 900000);
     CAPACITIES(0, 3750, 5);
+    PERCENTS(0, 0);
     flow_at(11000, -1000, 900000);
     CAPACITIES(0, 3750, 6);
+    flow_at(16000, 1000, 13499999);
+    PERCENTS(99, 93);
+    flow_at(16000, 1000, 1);
+    CAPACITIES(3750, 3750, 6);
+    PERCENTS(100, 93);
     memcpy(area, low_area, sizeof area);
     counter = 12600000;
     flow_at(15000, 1000, 60000); /* 16 2/3 mAh */

@@ -314,7 +314,8 @@ enum other {
     TOWARD_OF = CYCLES_END + 4, DRAWN_EMPTY = TOWARD_OF + 3, RUN_OPENS = DRAWN_EMPTY + 2, RUN_STAYS = RUN_OPENS + 5,
     RUN_HELD = RUN_STAYS + 4, RUN_ENDS = RUN_HELD + 3, RUN_NONE = RUN_ENDS + 2, CLOSED_AFTER = RUN_NONE + 2,
     CLOSED_WITH = CLOSED_AFTER + 4, LEARNED = CLOSED_WITH + 5, LEARNED_BY_DESIGN = LEARNED + 5,
-    ABSOLUTE = LEARNED_BY_DESIGN + 3, TANK_TOWARD = ABSOLUTE + 3, TANK_OPEN = TANK_TOWARD + 4,
+    ABSOLUTE = LEARNED_BY_DESIGN + 3, RELATIVE = ABSOLUTE + 3, ABOUT_PERCENT = RELATIVE + 101,
+    ABOUT_FULL = ABOUT_PERCENT + 3, TANK_TOWARD = ABOUT_FULL + 3, TANK_OPEN = TANK_TOWARD + 4,
     TANK_CLOSED = TANK_OPEN + 4, TANK_FLAG = TANK_CLOSED + 4, SET_UP_OF = TANK_FLAG + 8, ROOM_OF = SET_UP_OF + 4,
     BEFORE_2 = ROOM_OF + 2 * 22, ONE_ROOM = BEFORE_2 + 3, DUE_REFUSED = ONE_ROOM + 7, DUE_SERVED = DUE_REFUSED + 5,
     PLAIN_FLAG = DUE_SERVED + 5, ALTERED = PLAIN_FLAG + 4, C_READ = ALTERED + 4, C_WRITE = C_READ + 2,
@@ -804,6 +805,8 @@ static void note_word(uint8_t command, bool power, uint16_t word, int answer)
             note_time(i, word, answer);
     if (command == 0x07)
         other[AT_RATE_OK + 2 * power + (word != 0)]++;
+    if (command == 0x0D)
+        other[RELATIVE + word]++; /* the second program caps it at 100 */
     if (command == 0x0E)
         other[ABSOLUTE + (word <= 100 ? 0 : word < 65535 ? 1 : 2)]++;
     for (unsigned bit = 0; command == 0x16 && bit < 16; bit++)
@@ -1526,6 +1529,23 @@ static void play_learned(void)
     flow((int16_t)-(int32_t)below(3), below(2), true);
 }
 
+/* 0D about the least charge that a percent takes, so many hundredths of full; of 100 that is full, and more isn't sound. */
+static void play_percent(void)
+{
+    uint16_t full = some_capacity();
+    uint32_t percent = one_in(4) ? 100 : 1 + below(99);
+    uint64_t least = (uint64_t)full * (SB2_MS_PER_HOUR / 100) * percent;
+    uint8_t kept[SNATCHBLOCK_AREA];
+    play_full_pack(some_capacity(), full);
+    memcpy(kept, state_area, sizeof kept);
+    for (unsigned i = 0; i < 3; i++) {
+        put(SNATCHBLOCK_TANK, 8, least - 1 + i);
+        play_bent_area(0x0D);
+        other[(percent == 100 ? ABOUT_FULL : ABOUT_PERCENT) + i]++;
+    }
+    memcpy(state_area, kept, sizeof kept);
+}
+
 /* Counts and flags at the borders of what is sound, one field beyond it at a time. */
 static void play_bent_tanks(void)
 {
@@ -1567,6 +1587,7 @@ static void play_learning(void)
         for (uint32_t left = 1 + below(16); left > 0; left--)
             play_use();
         play_learned();
+        play_percent();
     }
     play_bent_tanks();
     if (one_in(4))
@@ -2919,6 +2940,9 @@ static bool tally(void)
         {"learned 1 of less, 1, more, all 65,535, of more", LEARNED, LEARNED + 4},
         {"learned below design, design, above it", LEARNED_BY_DESIGN, LEARNED_BY_DESIGN + 2},
         {"0E: to 100, above, 65,535", ABSOLUTE, ABSOLUTE + 2},
+        {"0D: each of 0 to 100", RELATIVE, RELATIVE + 100},
+        {"one below, at, one above the least of a percent", ABOUT_PERCENT, ABOUT_PERCENT + 2},
+        {"and about full, one above it refused", ABOUT_FULL, ABOUT_FULL + 2},
         {"areas: toward one below design, design, above, any", TANK_TOWARD, TANK_TOWARD + 3},
         {"a run of 65,535 mAh less 1, all, 1 more, any", TANK_OPEN, TANK_OPEN + 3},
         {"with none open 0, 1, 65,535 mAh, any", TANK_CLOSED, TANK_CLOSED + 3},

@@ -1,4 +1,4 @@
--- Request R-4 worked by hand: a pack of 4,000 mAh, full at set-up and worn to 3,750. At −1,000 mA an hour draws 1,000 mAh.
+-- Requests R-4 and R-8 worked by hand: a pack of 4,000 mAh, full at set-up and worn to 3,750. At −1,000 mA an hour draws 1,000 mAh.
 -- Assumes nothing.
 use Prim.Native.Nat.{ℕ}
 use mathlib.Core.Bool.{false}
@@ -64,3 +64,20 @@ abbrev pub LearnedByHand : Type 0
 LearnedByHand =
     capacities full ++ capacities low ++ capacities empty ++ capacities more ++ capacities later
     ≡ (4000 ∷ 4000 ∷ 5 ∷ []) ++ (500 ∷ 4000 ∷ 5 ∷ []) ++ (0 ∷ 3750 ∷ 5 ∷ []) ++ (0 ∷ 3750 ∷ 6 ∷ []) ++ (266 ∷ 4000 ∷ 5 ∷ [])
+
+-- charged again from empty at 1,000 mA, for three and three quarter hours, less one ms of it and in all
+abbrev nearly : Pack
+nearly = sampledAt empty 16000 (pos 1000) 26999999
+
+abbrev again : Pack
+again = sampledAt empty 16000 (pos 1000) 27000000
+
+-- 0D and 0E
+abbrev percents : Pack → List ℕ
+percents p = wordOf (record { error = 0; pack = p }) 0x0D ∷ wordOf (record { error = 0; pack = p }) 0x0E ∷ []
+
+-- 500 mAh are 12.5 percent of 4,000; one ms short of the learned 3,750 there is a bit less than 100 percent; 3,750 are 93.75 of design (RULES 6.12, 6.13, 6.28)
+abbrev pub PercentsByHand : Type 0
+PercentsByHand =
+    percents full ++ percents low ++ percents empty ++ percents nearly ++ percents again
+    ≡ (100 ∷ 100 ∷ []) ++ (12 ∷ 12 ∷ []) ++ (0 ∷ 0 ∷ []) ++ (99 ∷ 93 ∷ []) ++ (100 ∷ 93 ∷ [])
