@@ -1,6 +1,6 @@
 -- RelativeStateOfCharge is at most 100 without a cap, and 100 exactly when charge is full; with a cap it and bit 4 were the same.
 -- Assumes nothing.
-use Prim.Native.Nat.{ℕ, _*_, _/_, min}
+use Prim.Native.Nat.{ℕ, min}
 use mathlib.Core.Bool.{Bool, true, false, cond}
 use mathlib.Core.Path.{_≡_, refl, sym, ap, _∙_}
 use borrow.Author.Tests.{eq-eqb, eqb-true, le-leb, lt-leb, leb-true, leb-false}
