@@ -2,7 +2,7 @@
 -- Assumes nothing.
 use Prim.Native.Nat.{ℕ, _+_, _*_, _/_, _^_, _≤_, _<_}
 use mathlib.Core.Bool.{Bool, true, false}
-use mathlib.Core.Path.{_≡_}
+use mathlib.Core.Path.{_≡_, refl}
 use native.Mathlib.Omega.{arith}
 use Rattle.alarms.specs.Alarms.{chargeFull, overTemp, terminateCharge, terminateDischarge, remainingCapacityLow, remainingTimeLow, discharging}
 use Rattle.status.specs.Status.{statusBits, batteryStatus}
@@ -13,6 +13,11 @@ use Rattle.registers.specs.Registers.{bit}
 digit-most : (on : Bool) → digit on ≤ 1
 digit-most true = omega arith
 digit-most false = omega arith
+
+-- a digit of 1 is of a flag that is set
+pub digit-set : (on : Bool) → digit on ≡ 1 → on ≡ true
+digit-set true h = refl
+digit-set false h = absurd (omega (arith, h))
 
 weighed : (k : ℕ) (on : Bool) → bit k on ≡ 2 ^ k * digit on
 weighed k true = omega arith

@@ -10,9 +10,8 @@ use Rattle.alarms.specs.Alarms.{chargeFull}
 use Rattle.capacity.proofs.Bounds.{percent-most, percent-full}
 use Rattle.capacity.specs.Capacity.{percentOf}
 use Rattle.gauge.specs.Word.{givenOf}
-use Rattle.gauge_laws.proofs.Bits.{bits-stand}
+use Rattle.gauge_laws.proofs.Bits.{digit-set, bits-stand}
 use Rattle.gauge_laws.specs.Hundred.{RelativeMost, HundredExactly, HundredShown, RelativeOfBefore, BitOfBefore}
-use Rattle.gauge_laws.specs.Promises.{digit}
 use Rattle.pack.proofs.Soundness.{tank-of-sound, code-of-sound}
 
 pub relative-most : RelativeMost
@@ -22,10 +21,6 @@ relative-most s h = percent-most (s .pack .tank .charge) (s .pack .tank .full) (
 pub hundred-exactly : HundredExactly
 unfolding givenOf
 hundred-exactly s h = let f = tank-of-sound s h in percent-full (s .pack .tank .charge) (s .pack .tank .full) (f .full) (f .charge)
-
-digit-set : (on : Bool) → digit on ≡ 1 → on ≡ true
-digit-set true h = refl
-digit-set false h = absurd (omega (arith, h))
 
 pub hundred-shown : HundredShown
 unfolding givenOf

@@ -8,8 +8,8 @@ use borrow.Author.Tests.{ne-eqb}
 use Rattle.alarms.specs.Alarms.{terminateCharge}
 use Rattle.status.specs.Status.{statusBits}
 use Rattle.gauge.specs.Word.{givenOf, wordOf}
-use Rattle.gauge_laws.proofs.Bits.{above-code, bits-stand}
-use Rattle.gauge_laws.specs.Promises.{digit, Initially, InitialWords, AlwaysInitialized, ChargingCurrentOff, RemainingAtMostFull}
+use Rattle.gauge_laws.proofs.Bits.{digit-set, above-code, bits-stand}
+use Rattle.gauge_laws.specs.Promises.{Initially, InitialWords, AlwaysInitialized, ChargingCurrentOff, RemainingAtMostFull}
 use Rattle.pack.proofs.Soundness.{parts, pack-of-sound}
 use Rattle.start.specs.SetUp.{setUpOf, setUpRefused, packOf, zeroState}
 use Rattle.pack.specs.declared.Sample.{Sample}
@@ -45,14 +45,12 @@ pub remaining-word-most : RemainingAtMostFull
 unfolding givenOf
 remaining-word-most s h = remaining-at-most-full (s .pack) (parts (s .pack) (pack-of-sound s h) .tank)
 
-set : (on : Bool) (x : ℕ) → digit on ≡ 1 → cond on 0 x ≡ 0
-set true x h = refl
-set false x h = absurd (omega arith)
-
 -- 14 is 0 while bit 14 of 16 is set
 pub charging-current-off : ChargingCurrentOff
 unfolding givenOf
-charging-current-off s l h = set (terminateCharge (s .pack)) _ (sym (bits-stand (s .pack) (s .error) l .TERMINATE_CHARGE) ∙ h)
+charging-current-off s l h =
+    let p = s .pack in
+    ap (λ (off : Bool). cond off 0 (p .settings .ChargingCurrent)) (digit-set (terminateCharge p) (sym (bits-stand p (s .error) l .TERMINATE_CHARGE) ∙ h))
 
 abbrev refused : Started
 refused = record { answer = 11; state = zeroState }
