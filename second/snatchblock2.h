@@ -10,7 +10,8 @@
  *
  * A pointer may be null where the length given with it is 0. Rooms are lent
  * memory: a refused call writes no byte of them, a served one only the front.
- * The bytes read by a call and the room it writes must not overlap.
+ * The bytes read by a call and the room it writes must not overlap, but for the
+ * sheet that an edit finds in its room.
  */
 #ifndef SNATCHBLOCK2_H
 #define SNATCHBLOCK2_H
@@ -38,7 +39,10 @@ enum sb2_answer {
     SB2_NOT_A_CAPTURE = 14,
     SB2_OUT_OF_RANGE = 15,
     SB2_TOO_MANY_ROWS = 16,
-    SB2_BAD_ROW = 17
+    SB2_BAD_ROW = 17,
+    SB2_BAD_TAG = 18,
+    SB2_LONG_BODY = 19,
+    SB2_LONG_SHEET = 20 /* what an edit would give, for its room */
 };
 
 /* Sizes and times of document 01 and of the shelf. */
@@ -348,6 +352,14 @@ bool sb2_sheet_good(struct sb2_bytes sheet);
 
 /* Finds a block name: answers 0 with its place, or 9 if a sheet is bad (rule: Pack sheet). */
 int sb2_sheet_block(struct sb2_bytes service, struct sb2_bytes factory, uint8_t tag, struct sb2_block *block);
+
+/* Sets a body under a tag, adding or replacing it, in the sheet that is the first `stated` bytes of a room: answers 0
+ * with the new length, or 9, 18, 19 or 20. What the new sheet leaves of the old one becomes 0 (rule: R-9). */
+int sb2_sheet_set(uint8_t *room, size_t room_length, size_t stated, uint8_t tag, struct sb2_bytes body, size_t *length);
+
+/* Removes the body under a tag, if there is one, from such a sheet: answers 0 with the new length, or 9 or 18. What is
+ * left of the old sheet becomes 0 (rule: R-9). */
+int sb2_sheet_remove(uint8_t *room, size_t room_length, size_t stated, uint8_t tag, size_t *length);
 
 /* ---- captures */
 

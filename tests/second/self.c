@@ -1,7 +1,8 @@
 /* Holds the second program to published facts: document 01's worked examples
  * and tables, both packets of source document 001, the check word of CRC-8 and
  * the values that 002 works out. Then to properties that document 01 states, and
- * to figures worked by hand from the words of requests R-1, R-2 and R-4 to R-7. */
+ * to figures worked by hand from the words of requests R-1, R-2, R-4 to R-7
+ * and R-9. */
 #include "../../second/snatchblock2.h"
 
 #include <stdio.h>
@@ -2804,6 +2805,314 @@ static void charger(void)
     joined();
 }
 
+/* ---- request R-9 */
+
+/* Edits an area with these bytes between others, all watched; answer, length and every byte must be as wanted. */
+static void edit_at(int line, struct sb2_bytes area, size_t stated, uint8_t tag, struct sb2_body body, int answer,
+                    size_t length, struct sb2_bytes wanted)
+{
+    uint8_t room[256];
+    size_t got = 999;
+    memset(room, 0xA5, sizeof room);
+    if (area.length != 0)
+        memcpy(room + 40, area.at, area.length);
+    int given = body.given ? sb2_sheet_set(room + 40, area.length, stated, tag, body.bytes, &got)
+                           : sb2_sheet_remove(room + 40, area.length, stated, tag, &got);
+    check_at(line, "answer", given, answer);
+    check_at(line, "length", (long long)got, (long long)length);
+    check_at(line, "area's bytes", (long long)wanted.length, (long long)area.length);
+    for (size_t i = 0; i < sizeof room; i++)
+        if (i >= 40 && i - 40 < wanted.length)
+            check_at(line, "byte of the area", room[i], wanted.at[i - 40]);
+        else
+            check_at(line, "byte beside the area", room[i], 0xA5);
+}
+#define SET(area, stated, tag, body, length, wanted) \
+    edit_at(__LINE__, area, stated, tag, (struct sb2_body){true, body}, 0, length, wanted)
+#define REMOVE(area, stated, tag, length, wanted) \
+    edit_at(__LINE__, area, stated, tag, (struct sb2_body){false, nothing}, 0, length, wanted)
+#define SET_REFUSED(area, stated, tag, body, answer) \
+    edit_at(__LINE__, area, stated, tag, (struct sb2_body){true, body}, answer, 0, area)
+#define REMOVE_REFUSED(area, stated, tag, answer) \
+    edit_at(__LINE__, area, stated, tag, (struct sb2_body){false, nothing}, answer, 0, area)
+
+/* Three bodies in 19 bytes, and five more in the area: AB, cde and f under 20, 21 and 23. */
+static const uint8_t three_names[24] = {3, 0x20, 2,   13,  0,   0x21, 3,   15, 0,  0x23, 1,  18,
+                                        0, 'A',  'B', 'c', 'd', 'e',  'f', 91, 92, 93,   94, 95};
+#define THREE bytes(three_names, 24)
+
+static void edits_add(void)
+{
+    SET(BYTES(0, 9, 9, 9, 9, 9, 9, 9, 7, 6), 1, 0x21, text("new"), 8, BYTES(1, 0x21, 3, 5, 0, 'n', 'e', 'w', 7, 6));
+    SET(BYTES(0, 9, 9, 9, 9, 9), 1, 0x23, nothing, 5, BYTES(1, 0x23, 0, 5, 0, 9)); /* no bytes, but listed */
+    SET(BYTES(0, 9, 9, 9, 9), 1, 0x20, nothing, 5, BYTES(1, 0x20, 0, 5, 0));
+    /* before, between and behind: the rows' end goes from 9 to 13 and every body with it */
+    SET(BYTES(2, 0x21, 1, 9, 0, 0x22, 2, 10, 0, 'a', 'b', 'c', 9, 9, 9, 9, 9, 9, 8), 12, 0x20, text("xy"), 18,
+        BYTES(3, 0x20, 2, 13, 0, 0x21, 1, 15, 0, 0x22, 2, 16, 0, 'x', 'y', 'a', 'b', 'c', 8));
+    SET(BYTES(2, 0x20, 1, 9, 0, 0x22, 2, 10, 0, 'a', 'b', 'c', 9, 9, 9, 9, 9, 9, 8), 12, 0x21, text("xy"), 18,
+        BYTES(3, 0x20, 1, 13, 0, 0x21, 2, 14, 0, 0x22, 2, 16, 0, 'a', 'x', 'y', 'b', 'c', 8));
+    SET(BYTES(2, 0x20, 1, 9, 0, 0x22, 2, 10, 0, 'a', 'b', 'c', 9, 9, 9, 9, 9, 9, 8), 12, 0x23, text("xy"), 18,
+        BYTES(3, 0x20, 1, 13, 0, 0x22, 2, 14, 0, 0x23, 2, 16, 0, 'a', 'b', 'c', 'x', 'y', 8));
+    /* a body of no bytes moves those behind it by its row alone */
+    SET(BYTES(1, 0x23, 1, 5, 0, 'a', 9, 9, 9, 9), 6, 0x20, nothing, 10, BYTES(2, 0x20, 0, 9, 0, 0x23, 1, 9, 0, 'a'));
+    /* the fourth, to the area's end */
+    SET(THREE, 19, 0x22, text("q"), 24,
+        BYTES(4, 0x20, 2, 17, 0, 0x21, 3, 19, 0, 0x22, 1, 22, 0, 0x23, 1, 23, 0, 'A', 'B', 'c', 'd', 'e', 'q', 'f'));
+}
+
+static void edits_replace(void)
+{
+    /* the middle one: longer, shorter, as long, away to no bytes */
+    SET(THREE, 19, 0x21, text("ghijk"), 21,
+        BYTES(3, 0x20, 2, 13, 0, 0x21, 5, 15, 0, 0x23, 1, 20, 0, 'A', 'B', 'g', 'h', 'i', 'j', 'k', 'f', 93, 94, 95));
+    SET(THREE, 19, 0x21, text("g"), 17,
+        BYTES(3, 0x20, 2, 13, 0, 0x21, 1, 15, 0, 0x23, 1, 16, 0, 'A', 'B', 'g', 'f', 0, 0, 91, 92, 93, 94, 95));
+    SET(THREE, 19, 0x21, text("ghi"), 19,
+        BYTES(3, 0x20, 2, 13, 0, 0x21, 3, 15, 0, 0x23, 1, 18, 0, 'A', 'B', 'g', 'h', 'i', 'f', 91, 92, 93, 94, 95));
+    SET(THREE, 19, 0x21, nothing, 16,
+        BYTES(3, 0x20, 2, 13, 0, 0x21, 0, 15, 0, 0x23, 1, 15, 0, 'A', 'B', 'f', 0, 0, 0, 91, 92, 93, 94, 95));
+    SET(THREE, 19, 0x21, text("cde"), 19, THREE);
+    /* the first and the last */
+    SET(THREE, 19, 0x20, text("ghi"), 20,
+        BYTES(3, 0x20, 3, 13, 0, 0x21, 3, 16, 0, 0x23, 1, 19, 0, 'g', 'h', 'i', 'c', 'd', 'e', 'f', 92, 93, 94, 95));
+    SET(THREE, 19, 0x20, nothing, 17,
+        BYTES(3, 0x20, 0, 13, 0, 0x21, 3, 13, 0, 0x23, 1, 16, 0, 'c', 'd', 'e', 'f', 0, 0, 91, 92, 93, 94, 95));
+    SET(THREE, 19, 0x23, text("ghijk"), 23,
+        BYTES(3, 0x20, 2, 13, 0, 0x21, 3, 15, 0, 0x23, 5, 18, 0, 'A', 'B', 'c', 'd', 'e', 'g', 'h', 'i', 'j', 'k', 95));
+    SET(THREE, 19, 0x23, nothing, 18,
+        BYTES(3, 0x20, 2, 13, 0, 0x21, 3, 15, 0, 0x23, 0, 18, 0, 'A', 'B', 'c', 'd', 'e', 0, 91, 92, 93, 94, 95));
+}
+
+static void edits_remove(void)
+{
+    /* the first, the middle one, the last: a row of four bytes and the body's go, 0 in their number at the end */
+    REMOVE(THREE, 19, 0x20, 13,
+           BYTES(2, 0x21, 3, 9, 0, 0x23, 1, 12, 0, 'c', 'd', 'e', 'f', 0, 0, 0, 0, 0, 0, 91, 92, 93, 94, 95));
+    REMOVE(THREE, 19, 0x21, 12,
+           BYTES(2, 0x20, 2, 9, 0, 0x23, 1, 11, 0, 'A', 'B', 'f', 0, 0, 0, 0, 0, 0, 0, 91, 92, 93, 94, 95));
+    REMOVE(THREE, 19, 0x23, 14,
+           BYTES(2, 0x20, 2, 9, 0, 0x21, 3, 11, 0, 'A', 'B', 'c', 'd', 'e', 0, 0, 0, 0, 0, 91, 92, 93, 94, 95));
+    /* absent ones */
+    REMOVE(THREE, 19, 0x22, 19, THREE);
+    REMOVE(bytes(three_names, 19), 19, 0x22, 19, bytes(three_names, 19));
+    for (unsigned tag = 0x20; tag < 0x24; tag++) {
+        REMOVE(BYTES(0), 1, (uint8_t)tag, 1, BYTES(0));
+        REMOVE(BYTES(0, 9, 9), 1, (uint8_t)tag, 1, BYTES(0, 9, 9));
+    }
+    /* the only one, with bytes and with none; what is listed without bytes is removed as well */
+    REMOVE(BYTES(1, 0x22, 2, 5, 0, 'a', 'b', 9), 7, 0x22, 1, BYTES(0, 0, 0, 0, 0, 0, 0, 9));
+    REMOVE(BYTES(1, 0x23, 0, 5, 0), 5, 0x23, 1, BYTES(0, 0, 0, 0, 0));
+    REMOVE(BYTES(2, 0x20, 0, 9, 0, 0x21, 1, 9, 0, 'a'), 10, 0x20, 6, BYTES(1, 0x21, 1, 5, 0, 'a', 0, 0, 0, 0));
+}
+
+/* 9 before 18, 19 and 20: every stated length but the sheet's own, an area that ends within it, fronts of no form. */
+static void edits_no_sheet(void)
+{
+    uint8_t x[33], front[24];
+    memset(x, 'x', sizeof x);
+    for (size_t stated = 0; stated <= 30; stated++) {
+        const int answer = stated != 19 ? 9 : 18;
+        SET_REFUSED(THREE, stated, 0x24, bytes(x, 33), answer);
+        REMOVE_REFUSED(THREE, stated, 0x1F, answer);
+        SET_REFUSED(THREE, stated, 0x21, bytes(x, 33), stated != 19 ? 9 : 19);
+        SET_REFUSED(THREE, stated, 0x21, bytes(x, 32), stated != 19 ? 9 : 20);
+    }
+    for (size_t length = 0; length < 19; length++) { /* the bytes behind the area would make it a sheet from 13 on */
+        SET_REFUSED(bytes(three_names, length), 19, 0x21, nothing, 9);
+        REMOVE_REFUSED(bytes(three_names, length), 19, 0x21, 9);
+        REMOVE_REFUSED(bytes(three_names, length), length, 0x21, 9);
+    }
+    SET_REFUSED(THREE, SIZE_MAX, 0x21, text("g"), 9);
+    REMOVE_REFUSED(THREE, SIZE_MAX, 0x21, 9);
+    size_t got = 9;
+    CHECK(sb2_sheet_set(NULL, 0, 0, 0x21, nothing, &got), 9);
+    CHECK(got, 0);
+    got = 9;
+    CHECK(sb2_sheet_remove(NULL, 0, 0, 0x21, &got), 9);
+    CHECK(got, 0);
+    for (size_t i = 0; i < 13; i++) {
+        memcpy(front, three_names, 24);
+        front[i] += 4; /* 7 rows, a tag of 24, 25 or 27, a wrong length or offset */
+        SET_REFUSED(bytes(front, 24), 19, 0x22, text("g"), 9);
+        REMOVE_REFUSED(bytes(front, 24), 19, 0x22, 9);
+    }
+}
+
+/* 18 for every tag but four, before 19 and 20; 19 for every body over 32, before 20. */
+static void edits_refused(void)
+{
+    uint8_t x[600];
+    memset(x, 'x', sizeof x);
+    for (unsigned tag = 0; tag < 256; tag++) {
+        const bool known = tag >= 0x20 && tag <= 0x23;
+        SET_REFUSED(THREE, 19, (uint8_t)tag, bytes(x, 33), known ? 19 : 18);
+        SET_REFUSED(THREE, 19, (uint8_t)tag, bytes(x, 32), known ? 20 : 18);
+        if (known)
+            continue;
+        SET_REFUSED(THREE, 19, (uint8_t)tag, nothing, 18);
+        REMOVE_REFUSED(THREE, 19, (uint8_t)tag, 18);
+        REMOVE_REFUSED(BYTES(0), 1, (uint8_t)tag, 18);
+    }
+    for (size_t length = 33; length <= sizeof x; length++) {
+        SET_REFUSED(BYTES(0), 1, 0x20, bytes(x, length), 19);
+        SET_REFUSED(bytes(three_names, 19), 19, 0x21, bytes(x, length), 19);
+    }
+    uint8_t room[64] = {0};
+    memset(room + 1, 0x77, 63);
+    SET_REFUSED(bytes(room, 64), 1, 0x20, bytes(x, 33), 19); /* though there is room */
+    SET_REFUSED(bytes(room, 36), 1, 0x20, bytes(x, 32), 20); /* 37 bytes, one too many */
+    uint8_t wanted[64] = {1, 0x20, 32, 5, 0};
+    memset(wanted + 5, 'x', 32);
+    memset(wanted + 37, 0x77, 27);
+    SET(bytes(room, 37), 1, 0x20, bytes(x, 32), 37, bytes(wanted, 37));
+    SET(bytes(room, 64), 1, 0x20, bytes(x, 32), 37, bytes(wanted, 64));
+}
+
+/* 20 up to one byte too few, served from the result's length on, and always where the sheet doesn't grow. */
+static void edits_at_border(void)
+{
+    static const uint8_t longer[24] = {3, 0x20, 2,   13,  0,   0x21, 5,   15,  0,   0x23, 1,  20,
+                                       0, 'A',  'B', 'g', 'h', 'i',  'j', 'k', 'f', 93,   94, 95};
+    static const uint8_t four[24] = {4, 0x20, 2, 17, 0, 0x21, 3,   19,  0,   0x22, 0,   22,
+                                     0, 0x23, 1, 22, 0, 'A',  'B', 'c', 'd', 'e',  'f', 95};
+    for (size_t room = 19; room <= 24; room++) {
+        if (room < 21)
+            SET_REFUSED(bytes(three_names, room), 19, 0x21, text("ghijk"), 20);
+        else
+            SET(bytes(three_names, room), 19, 0x21, text("ghijk"), 21, bytes(longer, room));
+        if (room < 23)
+            SET_REFUSED(bytes(three_names, room), 19, 0x22, nothing, 20);
+        else
+            SET(bytes(three_names, room), 19, 0x22, nothing, 23, bytes(four, room));
+    }
+    for (size_t room = 1; room < 5; room++)
+        SET_REFUSED(bytes((const uint8_t[4]){0, 9, 9, 9}, room), 1, 0x21, nothing, 20);
+    /* in an area that the sheet fills */
+    SET(BYTES(1, 0x21, 2, 5, 0, 'a', 'b'), 7, 0x21, text("cd"), 7, BYTES(1, 0x21, 2, 5, 0, 'c', 'd'));
+    SET(BYTES(1, 0x21, 2, 5, 0, 'a', 'b'), 7, 0x21, text("c"), 6, BYTES(1, 0x21, 1, 5, 0, 'c', 0));
+    SET_REFUSED(BYTES(1, 0x21, 2, 5, 0, 'a', 'b'), 7, 0x21, text("cde"), 20);
+    SET_REFUSED(BYTES(1, 0x21, 2, 5, 0, 'a', 'b'), 7, 0x20, nothing, 20);
+    REMOVE(BYTES(1, 0x21, 2, 5, 0, 'a', 'b'), 7, 0x21, 1, BYTES(0, 0, 0, 0, 0, 0, 0));
+}
+
+/* Four bodies of 32 bytes, a letter each: 145 bytes, by hand and by edits in every order of the tags. */
+static void edits_most(void)
+{
+    static const uint8_t rows[17] = {4, 0x20, 32, 17, 0, 0x21, 32, 49, 0, 0x22, 32, 81, 0, 0x23, 32, 113, 0};
+    uint8_t full[146], room[146], body[33];
+    size_t length;
+    memcpy(full, rows, 17);
+    for (size_t i = 0; i < 128; i++)
+        full[17 + i] = (uint8_t)('a' + i / 32);
+    full[145] = 0x77;
+    for (unsigned n = 0; n < 256; n++) {
+        const unsigned order[4] = {n % 4, n / 4 % 4, n / 16 % 4, n / 64};
+        if ((1u << order[0] | 1u << order[1] | 1u << order[2] | 1u << order[3]) != 15)
+            continue;
+        memset(room, 0x77, sizeof room);
+        room[0] = 0;
+        length = 1;
+        for (size_t i = 0; i < 4; i++) {
+            memset(body, 'a' + (int)order[i], 32);
+            CHECK(sb2_sheet_set(room, 145, length, (uint8_t)(0x20 + order[i]), bytes(body, 32), &length), 0);
+            CHECK(length, 37 + 36 * i);
+        }
+        CHECK(memcmp(room, full, 146), 0);
+    }
+    memset(body, 'x', sizeof body);
+    SET_REFUSED(bytes(full, 145), 145, 0x22, bytes(body, 33), 19);
+    memset(room, 0, 146);
+    memcpy(room, full, 145);
+    room[10] = 31; /* one byte less under 22: a sheet of 144 */
+    room[15] = 112;
+    memmove(room + 112, room + 113, 32);
+    SET_REFUSED(bytes(room, 144), 144, 0x22, bytes(full + 81, 32), 20);
+    SET(bytes(room, 145), 144, 0x22, bytes(full + 81, 32), 145, bytes(full, 145));
+    room[144] = 0;
+    SET(bytes(full, 145), 145, 0x22, bytes(full + 81, 31), 144, bytes(room, 145));
+}
+
+/* What was freed serves at once: an area of ten bytes holds one name after another. */
+static void edits_reuse(void)
+{
+    uint8_t room[12] = {1, 0x20, 5, 5, 0, 'a', 'b', 'c', 'd', 'e', 0x77, 0x77};
+    size_t length;
+    CHECK(sb2_sheet_set(room, 10, 10, 0x21, text("f"), &length), 20);
+    CHECK(sb2_sheet_set(room, 10, 10, 0x20, nothing, &length), 0);
+    CHECK(length, 5);
+    CHECK(memcmp(room, "\x01\x20\x00\x05\x00\x00\x00\x00\x00\x00\x77\x77", 12), 0);
+    CHECK(sb2_sheet_set(room, 10, 5, 0x21, text("f"), &length), 0);
+    CHECK(length, 10);
+    CHECK(memcmp(room, "\x02\x20\x00\x09\x00\x21\x01\x09\x00\x66\x77\x77", 12), 0);
+    CHECK(sb2_sheet_remove(room, 10, 10, 0x20, &length), 0);
+    CHECK(length, 6);
+    CHECK(memcmp(room, "\x01\x21\x01\x05\x00\x66\x00\x00\x00\x00\x77\x77", 12), 0);
+    CHECK(sb2_sheet_set(room, 10, 6, 0x21, text("ghijk"), &length), 0);
+    CHECK(length, 10);
+    CHECK(memcmp(room, "\x01\x21\x05\x05\x00ghijk\x77\x77", 12), 0);
+    CHECK(sb2_sheet_remove(room, 10, 10, 0x21, &length), 0);
+    CHECK(length, 1);
+    CHECK(memcmp(room, "\x00\x00\x00\x00\x00\x00\x00\x00\x00\x00\x77\x77", 12), 0);
+}
+
+static void edits(void)
+{
+    edits_add();
+    edits_replace();
+    edits_remove();
+    edits_no_sheet();
+    edits_refused();
+    edits_at_border();
+    edits_most();
+    edits_reuse();
+}
+
+/* One drawn edit of a room whose bodies are known. The sheet of the bodies then is the one written afresh, 0 follows to
+ * the old one's end, and nothing else moves (rule: R-9). */
+static void drawn_edit(uint8_t *room, size_t room_length, struct sb2_body bodies[4], uint8_t names[4][32],
+                       size_t *length)
+{
+    uint8_t name[32], wanted[200], afresh[SB2_SHEET_ROOM];
+    const size_t i = draw() % 4, size = draw() % 33;
+    const struct sb2_body kept = bodies[i];
+    const bool sets = draw() % 3 != 0;
+    size_t after, got;
+    for (size_t k = 0; k < size; k++)
+        name[k] = (uint8_t)draw();
+    memcpy(wanted, room, 200);
+    bodies[i] = sets ? (struct sb2_body){true, bytes(name, size)} : (struct sb2_body){false, nothing};
+    CHECK(sb2_sheet_write(bodies, afresh, sizeof afresh, &after), 0);
+    int answer = sets ? sb2_sheet_set(room, room_length, *length, (uint8_t)(0x20 + i), bytes(name, size), &got)
+                      : sb2_sheet_remove(room, room_length, *length, (uint8_t)(0x20 + i), &got);
+    CHECK(answer, after > room_length ? 20 : 0);
+    CHECK(got, after > room_length ? 0 : after);
+    if (after > room_length) {
+        bodies[i] = kept;
+    } else {
+        memset(wanted, 0, *length);
+        memcpy(wanted, afresh, after);
+        *length = after;
+        memcpy(names[i], name, size);
+        bodies[i].bytes.at = names[i];
+    }
+    CHECK(memcmp(room, wanted, 200), 0);
+}
+
+/* Series of edits in areas of 1 to 160 bytes, with others behind them. */
+static void many_edits(void)
+{
+    for (size_t room_length = 1; room_length <= 160; room_length++) {
+        struct sb2_body bodies[4] = {{false, nothing}, {false, nothing}, {false, nothing}, {false, nothing}};
+        uint8_t room[200], names[4][32];
+        size_t length = 1;
+        for (size_t k = 0; k < sizeof room; k++)
+            room[k] = (uint8_t)draw();
+        room[0] = 0;
+        for (unsigned n = 0; n < 500; n++)
+            drawn_edit(room, room_length, bodies, names, &length);
+    }
+}
+
 int main(void)
 {
     worked_examples();
@@ -2842,10 +3151,12 @@ int main(void)
     tank_in_area();
     shelf();
     charger();
+    edits();
     minutes_by_sums();
     either_choice();
     runs_by_history();
     long_work();
+    many_edits();
     printf("second: %u passed, %u failed\n", passed, failed);
     return failed == 0 ? 0 : 1;
 }

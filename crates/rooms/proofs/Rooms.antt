@@ -21,6 +21,12 @@ pub all-bytes : (xs : List ℕ) → ((i : ℕ) → getD xs i 0 < 256) → Bytes 
 all-bytes [] h = tt
 all-bytes (x ∷ xs) h = (h zero, all-bytes xs (λ i. h (suc i)))
 
+-- the first of them are bytes
+pub first-bytes : (n : ℕ) (xs : List ℕ) → Bytes xs → Bytes (take n xs)
+first-bytes zero xs b = tt
+first-bytes (suc n) [] b = tt
+first-bytes (suc n) (x ∷ xs) b = (b .0, first-bytes n xs (b .1))
+
 -- bytes stored one after another are stored in a row
 pub sets-append : (l : List ℕ) (i : ℕ) (vs ws : List ℕ) → sets (sets l i vs) (i + length vs) ws ≡ sets l i (vs ++ ws)
 sets-append l i [] ws = rw add-zero

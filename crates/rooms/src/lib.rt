@@ -1,6 +1,6 @@
 // Bytes in a lent room: what every reader and writer of bytes needs. Only our own crates call these.
 ghost use mathlib.Core.Path.{_≡_};
-ghost use Prim.Native.Nat.{_+_, _<_, _≤_};
+ghost use Prim.Native.Nat.{_+_, _*_, _<_, _≤_};
 ghost use lib.ListN.{length};
 ghost use lib.Seq.{sets};
 
@@ -15,6 +15,13 @@ pub fn wide(x: u8) -> usize
     ensures { λ r. ⌜ (r ≡ x) × (r < 256) ⌝ }
 {
     x as usize
+}
+
+// A place kept in two bytes, low first.
+pub fn offset(low: u8, high: u8) -> usize
+    ensures { λ r. ⌜ (r ≡ low + 256 * high) × (r < 65536) ⌝ }
+{
+    wide(low) + (wide(high) << 8)
 }
 
 // Bytes from a place of the room on.

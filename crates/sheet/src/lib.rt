@@ -21,13 +21,6 @@ pub struct Located {
     pub end: usize,
 }
 
-// A row's offset: two bytes, low first.
-fn offset(low: u8, high: u8) -> usize
-    ensures { λ r. ⌜ (r ≡ low + 256 * high) × (r < 65536) ⌝ }
-{
-    rooms::wide(low) + (rooms::wide(high) << 8)
-}
-
 // Whether a tag may be listed with a body of some length.
 fn allowed(tag: u8, length: u8) -> bool
     ensures { λ r. ⌜ r ≡ allows (old .kinds) tag length ⌝ }
@@ -46,7 +39,7 @@ fn row_ok(s: &[u8], at: usize, low: usize, end: usize) -> bool
     if !allowed(s[at], s[at + 1]) {
         return false;
     }
-    offset(s[at + 2], s[at + 3]) == end
+    rooms::offset(s[at + 2], s[at + 3]) == end
 }
 
 // Whether bytes are a sheet.
@@ -91,7 +84,7 @@ fn find(sheet: &[u8], tag: u8) -> Found
     let mut at: usize = 1;
     while i < n {
         if sheet[at] == tag {
-            let start = offset(sheet[at + 2], sheet[at + 3]);
+            let start = rooms::offset(sheet[at + 2], sheet[at + 3]);
             return Found::At(start, start + rooms::wide(sheet[at + 1]));
         }
         at += 4;

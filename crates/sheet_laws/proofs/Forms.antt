@@ -9,9 +9,9 @@ use lib.Seq.{drop-cons, drop-drop, length-take-le}
 use borrow.Author.Tests.{lt-ltb, le-leb, eq-eqb, eqb-true}
 use Rattle.rooms.proofs.Rooms.{byte-at}
 use Rattle.rooms.specs.Rooms.{Bytes, between}
-use Rattle.sheet.specs.Sheet.{Entry, rowsOf, contentsOf, bodiesOf, TagKind, Form, old, sheetOf, tagAt, lengthAt, offsetAt, rowsListed, rowOk, rowsOk, isSheetOf, entriesFrom, entriesIn}
+use Rattle.sheet.specs.Sheet.{Entry, rowsOf, bodiesOf, TagKind, Form, old, sheetOf, tagAt, lengthAt, offsetAt, rowsListed, rowOk, rowsOk, isSheetOf, entriesFrom, entriesIn}
 use Rattle.sheet.proofs.Rows.{RowRight, first-right, reach, contents}
-use Rattle.sheet.proofs.Lengths.{rows-length}
+use Rattle.sheet.proofs.Entries.{sheet-size}
 use Rattle.sheet_laws.specs.Forms.{Proper, listable}
 use Rattle.sheet_laws.specs.Laws.{SheetExactly, SheetOneChoice, SheetAllowed}
 use Rattle.sheet_laws.proofs.Entries.{first, cons, among-allowed, few-entries, row, read-back}
@@ -39,7 +39,7 @@ unfolding isSheetOf sheetOf
 is-sheet f P es g =
     let n : ℕ = length es in
     let s : List ℕ = sheetOf f es in
-    let m : length s ≡ 1 + 4 * n + length (bodiesOf es) = omega (arith, length-append (contentsOf f es) (bodiesOf es), rows-length es (1 + 4 * n)) in
+    let m : length s ≡ 1 + 4 * n + length (bodiesOf es) = sheet-size f es in
     let few : n ≤ length (f .kinds) = few-entries (f .kinds) es g in
     let c : (f .mark + n) % 128 ≡ n = omega (arith, P .marks, P .few) in
     let some-bytes : 0 < length s = omega arith in

@@ -1,7 +1,7 @@
 -- What the writer lays down: entries one after another are those of the choice, and lie as in its sheet. Assumes nothing.
 use mathlib.Core.Path.{_≡_, refl, sym, ap, _∙_}
 use mathlib.Core.Bool.{Bool, true, false, cond, not, _&&_, _||_, and-eq-true-iff, and-assoc, and-true}
-use mathlib.Core.List.{List, [], _∷_, _++_, append-assoc, append-nil}
+use mathlib.Core.List.{List, [], _∷_, _++_, append-nil}
 use Prim.Native.Nat.{ℕ, suc, _+_, _*_, _/_, _%_, _^_, _≤_, _<_}
 use native.Mathlib.Nat.{add-zero}
 use native.Mathlib.Omega.{arith}
@@ -13,22 +13,13 @@ use Rattle.rooms.specs.declared.Wrote.{Wrote}
 use Rattle.rooms.specs.Rooms.{wrote}
 use Rattle.rooms.proofs.Rooms.{sets-append, then, front}
 use Rattle.sheet.specs.Sheet.{Entry, rowsOf, contentsOf, bodiesOf, old, sheetOf}
+use Rattle.sheet.proofs.Entries.{bodies-append, bodies-length, rows-append, sheet-size}
 use Rattle.sheet.proofs.Lengths.{rows-length}
 use Rattle.sheet_writer.specs.declared.Cursor.{Cursor}
 use Rattle.sheet_writer.specs.Writing.{entryIf, choice, short, writable, sheetWrote, sheetRoom}
 use Rattle.sheet_writer.specs.Laying.{Place, laid, past, Put}
 
 -- ---- entries and then others
-
-bodies-append : (es ds : List Entry) → bodiesOf (es ++ ds) ≡ bodiesOf es ++ bodiesOf ds
-bodies-append [] ds = refl
-bodies-append (e ∷ es) ds = rw (bodies-append es ds) (sym (append-assoc (e .body) (bodiesOf es) (bodiesOf ds)))
-
-rows-append : (es ds : List Entry) (end : ℕ) → rowsOf end (es ++ ds) ≡ rowsOf end es ++ rowsOf (end + length (bodiesOf es)) ds
-rows-append [] ds end = rw add-zero
-rows-append (e ∷ es) ds end =
-    let n : end + length (bodiesOf (e ∷ es)) ≡ end + length (e .body) + length (bodiesOf es) = omega (arith, length-append (e .body) (bodiesOf es)) in
-    rw (n, rows-append es ds (end + length (e .body)))
 
 short-append : (es ds : List Entry) → short (es ++ ds) ≡ short es && short ds
 short-append [] ds = refl
@@ -80,7 +71,7 @@ module _ (room : List ℕ) (at : Cursor) (es ds : List Entry) (p : Place room at
   many = length-append es ds
 
   bytes : length (bodiesOf (es ++ ds)) ≡ length (bodiesOf es) + length (bodiesOf ds)
-  bytes = ap length (bodies-append es ds) ∙ length-append (bodiesOf es) (bodiesOf ds)
+  bytes = bodies-length es ds
 
   smalls : (short es ≡ true) × (short ds ≡ true)
   smalls = and-eq-true-iff (short es) (short ds) .0 (sym (short-append es ds) ∙ p .small)
@@ -164,13 +155,8 @@ bodies-most (e ∷ es) h =
     let s = and-eq-true-iff (leb (length (e .body)) 32) (short es) .0 h in
     omega (arith, leb-true (length (e .body)) 32 (s .0), bodies-most es (s .1), length-append (e .body) (bodiesOf es))
 
-sheet-length : (es : List Entry) → length (sheetOf old es) ≡ 1 + 4 * length es + length (bodiesOf es)
-unfolding sheetOf
-sheet-length es = omega (arith, length-append (contentsOf old es) (bodiesOf es), rows-length es (1 + 4 * length es))
-
--- the sheet of a choice has at most 145 bytes
 sheet-most : (es : List Entry) → length es ≤ 4 → short es ≡ true → length (sheetOf old es) ≤ 145
-sheet-most es few h = omega (arith, sheet-length es, bodies-most es h)
+sheet-most es few h = omega (arith, sheet-size old es, bodies-most es h)
 
 module _ (es : List Entry) (room : List ℕ) where
   -- what is answered, and what the room then holds
@@ -213,7 +199,7 @@ module _ (es : List Entry) (room : List ℕ) where
         let all = rw exact at given in
         let C : List ℕ = contentsOf old es in
         let f : 1 + 4 * n ≡ 0 + length C = omega (arith, rows-length es (1 + 4 * length es)) in
-        let l : last .end ≡ length (sheetOf old es) = ap (λ (a : Cursor). a .end) (all .0) ∙ omega (arith, sheet-length es) in
+        let l : last .end ≡ length (sheetOf old es) = ap (λ (a : Cursor). a .end) (all .0) ∙ omega (arith, sheet-size old es) in
         let s : sets (set room 0 n) 1 (rowsOf (1 + 4 * n) es) ≡ sets room 0 C = let z : 0 + length es ≡ length es = omega arith in rw (count, z) in
         (rw (z, ok, l), rw ok (all .1 ∙ then room 0 (1 + 4 * n) C (bodiesOf es) s f ∙ front (sheetOf old es) room (omega (arith, sheet-most es few (facts ok .0), facts ok .1))))
 

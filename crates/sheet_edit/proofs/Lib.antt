@@ -1,0 +1,4 @@
+pub mod Entries
+pub mod Shapes
+pub mod Rooms
+pub mod Whole
