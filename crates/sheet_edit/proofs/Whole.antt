@@ -57,6 +57,20 @@ module _ {room : List ℕ} {stated : ℕ} (F : Front room stated) (tag : ℕ) wh
     left-bytes = bodies-length B A;
   }
 
+  -- what a removal frees
+  abbrev gap : ℕ
+  gap = 4 * length M + length (bodiesOf M)
+
+  kept-size : length (sheetOf old (B ++ A)) + gap ≡ stated
+  kept-size = let C = counts in omega (arith, F .size, sheet-size old L, sheet-size old (B ++ A), C .rows, C .bytes, C .left-rows, C .left-bytes)
+
+  removed-sheet : sheetAfter room stated tag none ≡ sheetOf old (B ++ A)
+  unfolding edited
+  removed-sheet = ap (λ (x : List Entry). sheetOf old (edited tag none x)) (F .listed)
+
+  pub removed-fits : length (sheetAfter room stated tag none) ≤ length room
+  removed-fits = omega (arith, ap length removed-sheet, kept-size, F .reach)
+
   -- its rows list them
   lists : entriesFrom n (sheetOf old L) 1 ≡ L
   unfolding sheetOf old
@@ -168,9 +182,6 @@ module _ {room : List ℕ} {stated : ℕ} (F : Front room stated) (tag : ℕ) wh
     abbrev w : List ℕ
     w = drop stated room
 
-    abbrev gap : ℕ
-    gap = 4 * length M + length (bodiesOf M)
-
     taken : takenOut room stated k p ≡ sheetOf old (B ++ A) ++ (replicate gap 0 ++ w)
     taken =
         ap (λ (s : List ℕ). takenOut s stated k p) (room-is F)
@@ -184,20 +195,10 @@ module _ {room : List ℕ} {stated : ℕ} (F : Front room stated) (tag : ℕ) wh
         end : 1 + 4 * n + length (bodiesOf B) + length (bodiesOf M) ≡ 1 + 4 * length (B ++ (M ++ A)) + length (bodiesOf B) + length (bodiesOf M)
         end = ap (λ (x : List Entry). 1 + 4 * length x + length (bodiesOf B) + length (bodiesOf M)) (sym (three .whole))
 
-    kept-size : length (sheetOf old (B ++ A)) + gap ≡ stated
-    kept-size = let C = counts in omega (arith, F .size, sheet-size old L, sheet-size old (B ++ A), C .rows, C .bytes, C .left-rows, C .left-bytes)
-
     -- ---- removed
-
-    removed-sheet : sheetAfter room stated tag none ≡ sheetOf old (B ++ A)
-    unfolding edited
-    removed-sheet = ap (λ (x : List Entry). sheetOf old (edited tag none x)) (F .listed)
 
     pub removed-size : left ≡ length (sheetAfter room stated tag none)
     removed-size = sizes .left-is ∙ ap length (sym removed-sheet)
-
-    pub removed-fits : length (sheetAfter room stated tag none) ≤ length room
-    removed-fits = omega (arith, ap length removed-sheet, kept-size, F .reach)
 
     pub removed : takenOut room stated k p ≡ roomWith (sheetAfter room stated tag none) stated room
     removed =

@@ -85,7 +85,7 @@ none-left (e ∷ es) g =
     let f = first (old .kinds) 0x24 e es g in
     absurd (omega (arith, f .least, allowed-tag (e .tag) (length (e .body)) (f .allowed) .1))
 
-chosen : (s : List ℕ) → SheetOfSome old s → Written s
+pub chosen : (s : List ℕ) → SheetOfSome old s → Written s
 chosen s w =
     let p = split 0x20 (w .entries) (from-20 (w .entries) (w .may)) in
     let q = split 0x21 (p .rest) (p .may) in

@@ -60,7 +60,7 @@ take-out-requires c κs =
 returns-2 : tie.Need-returns-2
 returns-2 c =
     let S = span (c .before .before .before .before .before .before .before) in
-    served _ _ _ _ (passes (c .before .before .before .before .before .before .before .before .before .before .before)) (removed-fits _ _ S) _ _ _ (c .before .before .before .before .before .before .before .before .before .before .before .if1 .left) (rw (c .before .before .before .before .before .rows-size .ensures) (removed-size _ _ S)) (c .before .before .take-out .ensures ∙ removed _ _ S)
+    served _ _ _ _ (passes (c .before .before .before .before .before .before .before .before .before .before .before)) (removed-fits (at-front (c .before .before .before .before .before .before .before .before .before .before .before)) _) _ _ _ (c .before .before .before .before .before .before .before .before .before .before .before .if1 .left) (rw (c .before .before .before .before .before .rows-size .ensures) (removed-size _ _ S)) (c .before .before .take-out .ensures ∙ removed _ _ S)
 
 pub remove-spec : {M : Type 1} → statement M
 remove-spec =

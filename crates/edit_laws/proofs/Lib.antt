@@ -1,0 +1,4 @@
+pub mod Entries
+pub mod Rooms
+pub mod One
+pub mod Series

@@ -1,0 +1,83 @@
+-- What is promised of edits. Definitions: assumes nothing.
+use mathlib.Core.Path.{_≡_}
+use mathlib.Core.Logic.{_↔_}
+use mathlib.Core.Bool.{true, cond}
+use mathlib.Core.List.{List, [], _∷_}
+use mathlib.Core.Option.{Option, none, Option·getD}
+use Prim.Native.Nat.{ℕ, _-_, max, _≤_, _<_}
+use lib.Dec.{eqb}
+use lib.ListN.{length, take, drop, replicate}
+use Rattle.rooms.specs.Rooms.{Bytes, wrote}
+use Rattle.sheet.specs.Sheet.{old, sheetOf, isSheet, entriesIn, bodyIn}
+use Rattle.sheet.specs.Block.{blockOf}
+use Rattle.sheet_writer.specs.Writing.{sheetWrote, sheetRoom}
+use Rattle.sheet_edit.specs.Edit.{edited, holdsSheet, sheetAfter, isName, sizeOf, editAnswer, editOf, roomWith, roomAfter}
+use Rattle.edit_laws.specs.Series.{Edit, Held, isServed, next, after, longest, choiceOf, sheetIn, endBodies}
+
+-- ---- one edit
+
+-- a room of bytes, and an edit of the sheet at its front that is served: what holds of the room after it, and of the length that is answered
+abbrev pub Served : ((room : List ℕ) (stated tag : ℕ) (to : Option (List ℕ)) (after : List ℕ) (length : ℕ) → Type 0) → Type 0
+Served P = (room : List ℕ) (stated tag : ℕ) (to : Option (List ℕ)) → Bytes room → editAnswer room stated tag to ≡ 0
+    → P room stated tag to (roomAfter room stated tag to) (editOf room stated tag to .length)
+
+-- the front is a sheet, so without gaps, and it lists exactly the edited entries
+abbrev pub EditLists : Type 0
+EditLists = Served (λ room stated tag to after length.
+    (holdsSheet after length ≡ true) × (entriesIn (take length after) ≡ edited tag to (entriesIn (take stated room))))
+
+-- the edit's tag reads as the body that was set, or as none; every other tag reads as before
+abbrev pub EditReads : Type 0
+EditReads = Served (λ room stated tag to after length.
+    (t : ℕ) → bodyIn (take length after) t ≡ cond (eqb tag t) to (bodyIn (take stated room) t))
+
+-- the pack's block name of the tag is then the body that was set; where it was removed, the factory sheet's
+abbrev pub EditNamed : Type 0
+EditNamed = Served (λ room stated tag to after length.
+    (factory : List ℕ) → isSheet factory ≡ true → blockOf (take length after) factory tag ≡ Option·getD to (Option·getD (bodyIn factory tag) []))
+
+-- the room keeps its length; within the old sheet zeros follow the new one; beyond both all is as it was
+abbrev pub EditBehind : Type 0
+EditBehind = Served (λ room stated tag to after length.
+    (lib.ListN.length after ≡ lib.ListN.length room) × (take (stated - length) (drop length after) ≡ replicate (stated - length) 0)
+    × (drop (max stated length) after ≡ drop (max stated length) room))
+
+-- setting what is there changes nothing, nor does removing what isn't
+abbrev pub EditNothing : Type 0
+EditNothing = (room : List ℕ) (stated tag : ℕ) → Bytes room → holdsSheet room stated ≡ true → isName tag ≡ true
+    → (editOf room stated tag (bodyIn (take stated room) tag) ≡ record { answer = 0; length = stated })
+    × (roomAfter room stated tag (bodyIn (take stated room) tag) ≡ room)
+
+-- 20 comes exactly when the new sheet is longer than the room
+abbrev pub EditTwenty : Type 0
+EditTwenty = (room : List ℕ) (stated tag : ℕ) (to : Option (List ℕ)) → holdsSheet room stated ≡ true → isName tag ≡ true → sizeOf to ≤ 32
+    → (editAnswer room stated tag to ≡ 20) ↔ (length room < length (sheetAfter room stated tag to))
+
+-- so never in a room of 145 bytes
+abbrev pub EditRoomEnough : Type 0
+EditRoomEnough = (room : List ℕ) (stated tag : ℕ) (to : Option (List ℕ)) → Bytes room → 145 ≤ length room → holdsSheet room stated ≡ true → isName tag ≡ true → sizeOf to ≤ 32
+    → editAnswer room stated tag to ≡ 0
+
+-- nor to a removal
+abbrev pub RemoveServed : Type 0
+RemoveServed = (room : List ℕ) (stated tag : ℕ) → Bytes room → holdsSheet room stated ≡ true → isName tag ≡ true → editAnswer room stated tag none ≡ 0
+
+-- ---- several
+
+-- any series leaves the sheet of the final bodies; zeros behind it, to where the longest sheet on the way ended; then what stood there
+abbrev pub SeriesLeaves : Type 0
+SeriesLeaves = (es : List Edit) (h : Held) → Bytes (h .room) → holdsSheet (h .room) (h .stated) ≡ true
+    → (after es h .stated ≡ length (sheetOf old (choiceOf (endBodies es h))))
+    × (after es h .room ≡ roomWith (sheetOf old (choiceOf (endBodies es h))) (longest es h) (h .room))
+
+-- byte for byte the sheet that the writer gives for the final bodies, in any room of 145 bytes or more
+abbrev pub SeriesAfresh : Type 0
+SeriesAfresh = (es : List Edit) (h : Held) (fresh : List ℕ) → Bytes (h .room) → holdsSheet (h .room) (h .stated) ≡ true → 145 ≤ length fresh
+    → (sheetWrote (choiceOf (endBodies es h)) fresh ≡ wrote 0 (after es h .stated))
+    × (take (after es h .stated) (sheetRoom (choiceOf (endBodies es h)) fresh) ≡ sheetIn (after es h))
+
+-- two edits on different tags give the same sheet in either order, where both orders are served
+abbrev pub EditsCommute : Type 0
+EditsCommute = (d e : Edit) (h : Held) → Bytes (h .room) → holdsSheet (h .room) (h .stated) ≡ true → (d .tag ≡ e .tag → ⊥)
+    → isServed d h ≡ true → isServed e (next d h) ≡ true → isServed e h ≡ true → isServed d (next e h) ≡ true
+    → (after (d ∷ e ∷ []) h .stated ≡ after (e ∷ d ∷ []) h .stated) × (sheetIn (after (d ∷ e ∷ []) h) ≡ sheetIn (after (e ∷ d ∷ []) h))
