@@ -43,15 +43,15 @@ up-turn l by (suc j) to {m} p h k e =
     let s : slice j to l ≡ getD l j 0 ∷ slice (suc j) to l = slice-cons j to l 0 (omega arith) k in
     rw (z, g, s, e′) (set-before l (suc (j + by)) (slice (suc j) to l) (j + by) (getD l j 0) (omega arith))
 
--- moving down: the bytes from..i are moved, and the next one goes
-pub down-turn : (l : List ℕ) (from by i : ℕ) {m : List ℕ} → by ≤ from → from ≤ i → i < length l → m ≡ sets l (from - by) (slice from i l)
-    → set m (i - by) (getD m i 0) ≡ sets l (from - by) (slice from (i + 1) l)
-down-turn l from by i {m} a b h e =
+-- moving down: the bytes from..i are moved to d on, below where they were, and the next one goes
+pub down-turn : (l : List ℕ) (from d i j : ℕ) {m : List ℕ} → d ≤ from → from ≤ i → i < length l → j ≡ d + (i - from) → m ≡ sets l d (slice from i l)
+    → set m j (getD m i 0) ≡ sets l d (slice from (i + 1) l)
+down-turn l from d i j {m} a b h k e =
     let n : length (slice from i l) ≡ i - from = length-slice from i l (omega arith) in
-    let k : length (take i l) ≡ i = length-take-le i l (omega arith) in
+    let t : length (take i l) ≡ i = length-take-le i l (omega arith) in
     let f : from ≤ length (take i l) = omega arith in
-    let g : getD m i 0 ≡ getD l i 0 = rw e (getD-above l (from - by) (slice from i l) i (omega arith)) in
-    rw (g, add-one, take-suc l i 0 h, drop-append-le from (take i l) (getD l i 0 ∷ []) f) (then l (from - by) (i - by) (slice from i l) (getD l i 0 ∷ []) e (omega arith))
+    let g : getD m i 0 ≡ getD l i 0 = rw e (getD-above l d (slice from i l) i (omega arith)) in
+    rw (g, add-one, take-suc l i 0 h, drop-append-le from (take i l) (getD l i 0 ∷ []) f) (then l d j (slice from i l) (getD l i 0 ∷ []) e (omega arith))
 
 -- clearing
 pub zero-turn : (l : List ℕ) (from i : ℕ) {m : List ℕ} → from ≤ i → m ≡ sets l from (replicate (i - from) 0) → set m i 0 ≡ sets l from (replicate (i + 1 - from) 0)

@@ -13,8 +13,7 @@ pub fn move_up(room: &mut [u8], from: usize, to: usize, by: usize)
     let mut i = to;
     while from < i {
         i -= 1;
-        let b = room[i];
-        room[i + by] = b;
+        room[i + by] = room[i];
     }
 }
 
@@ -25,8 +24,7 @@ pub fn move_down(room: &mut [u8], from: usize, to: usize, by: usize)
 {
     let mut i = from;
     while i < to {
-        let b = room[i];
-        room[i - by] = b;
+        room[i - by] = room[i];
         i += 1;
     }
 }

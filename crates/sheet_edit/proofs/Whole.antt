@@ -293,9 +293,13 @@ module _ (room : List ℕ) (stated tag : ℕ) where
   unfolding refusalOf holdsSheet
   no-name size h e k = rw (le-leb _ _ h, e, k)
 
-  pub by-size : (size answer : ℕ) → stated ≤ length room → isSheet (take stated room) ≡ true → isName tag ≡ true → answer ≡ cond (leb size 32) 0 19 → answer ≡ refusalOf room stated tag size
+  pub long-body : (size : ℕ) → stated ≤ length room → isSheet (take stated room) ≡ true → isName tag ≡ true → 32 < size → 19 ≡ refusalOf room stated tag size
   unfolding refusalOf holdsSheet
-  by-size size answer h e k a = rw (le-leb _ _ h, e, k) a
+  long-body size h e k l = rw (le-leb _ _ h, e, k, lt-leb _ _ l)
+
+  pub no-refusal : (size : ℕ) → stated ≤ length room → isSheet (take stated room) ≡ true → isName tag ≡ true → size ≤ 32 → 0 ≡ refusalOf room stated tag size
+  unfolding refusalOf holdsSheet
+  no-refusal size h e k l = rw (le-leb _ _ h, e, k, le-leb _ _ l)
 
   module _ (to : Option (List ℕ)) where
     -- what comes out: the result and the room

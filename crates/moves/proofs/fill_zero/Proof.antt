@@ -1,13 +1,11 @@
-use mathlib.Core.Path.{_≡_, refl, sym, ap, _∙_}
+use mathlib.Core.Path.{_≡_, refl, ap, _∙_}
 use Prim.Native.Nat.{_≤_, _+_, _-_}
 use native.Mathlib.Omega.{arith}
-use lib.ListN.{length, take, replicate, length-set}
-use lib.Seq.{sets, slice, slice-empty, take-all}
+use lib.ListN.{length, length-set, replicate}
+use lib.Seq.{sets}
 use Rattle.moves.proofs.Stores.{zero-turn, none-cleared}
 use Rattle.moves.proofs.fill_zero.Statement.{statement}
 use Rattle.moves.proofs.fill_zero.Tie as tie
-use Rattle.moves.proofs.fill_zero.Reads as reads
-use Rattle.moves.proofs.fill_zero.Lts as lts
 
 abbrev Inv-loop : tie.InvT-loop
 Inv-loop room₀ from to i₀ room i = (from ≤ i) × (i ≤ to) × (room ≡ sets room₀ from (replicate (i - from) 0)) × (length room ≡ length room₀)
@@ -17,15 +15,6 @@ abbrev μ-loop : tie.MeasureT-loop
 
 loop-holds : tie.Need-loop-holds Inv-loop μ-loop
 loop-holds c = (omega arith, omega arith, none-cleared (c .args .room .now) (c .args .from), refl)
-
-slice-write-room : tie.Need-slice-write-room Inv-loop μ-loop
-slice-write-room c = omega arith
-
-add-i : tie.Need-add-i Inv-loop μ-loop
-add-i c = omega arith
-
-loop-less : tie.Need-loop-less Inv-loop μ-loop
-loop-less c = omega arith
 
 loop-again : tie.Need-loop-again Inv-loop μ-loop
 loop-again c =
@@ -50,9 +39,9 @@ fill-zero-spec =
     Inv-loop
     μ-loop
     loop-holds
-    slice-write-room
-    add-i
-    loop-less
+    (λ c. omega arith)
+    (λ c. omega arith)
+    (λ c. omega arith)
     loop-again
     same-length
     returns)

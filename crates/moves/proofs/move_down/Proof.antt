@@ -1,13 +1,11 @@
-use mathlib.Core.Path.{_≡_, refl, sym, ap, _∙_}
+use mathlib.Core.Path.{_≡_, refl, ap, _∙_}
 use Prim.Native.Nat.{_≤_, _+_, _-_}
 use native.Mathlib.Omega.{arith}
-use lib.ListN.{length, take, replicate, length-set}
-use lib.Seq.{sets, slice, slice-empty, take-all}
+use lib.ListN.{length, length-set}
+use lib.Seq.{sets, slice}
 use Rattle.moves.proofs.Stores.{down-turn, none-moved}
 use Rattle.moves.proofs.move_down.Statement.{statement}
 use Rattle.moves.proofs.move_down.Tie as tie
-use Rattle.moves.proofs.move_down.Reads as reads
-use Rattle.moves.proofs.move_down.Lts as lts
 
 abbrev Inv-loop : tie.InvT-loop
 Inv-loop room₀ from to by i₀ room i = (from ≤ i) × (i ≤ to) × (room ≡ sets room₀ (from - by) (slice from i room₀)) × (length room ≡ length room₀)
@@ -18,26 +16,11 @@ abbrev μ-loop : tie.MeasureT-loop
 loop-holds : tie.Need-loop-holds Inv-loop μ-loop
 loop-holds c = (omega arith, omega arith, none-moved (c .args .room .now) (c .args .from - c .args .by) (c .args .from), refl)
 
-slice-read-b : tie.Need-slice-read-b Inv-loop μ-loop
-slice-read-b c = omega arith
-
-sub-room : tie.Need-sub-room Inv-loop μ-loop
-sub-room c = omega arith
-
-slice-write-room : tie.Need-slice-write-room Inv-loop μ-loop
-slice-write-room c = omega arith
-
-add-i : tie.Need-add-i Inv-loop μ-loop
-add-i c = omega arith
-
-loop-less : tie.Need-loop-less Inv-loop μ-loop
-loop-less c = omega arith
-
 loop-again : tie.Need-loop-again Inv-loop μ-loop
 loop-again c =
     let entry = c .before .before .before .args in
     let at-loop = c .before .before .loop in
-    (omega arith, omega arith, down-turn (entry .room .now) (entry .from) (entry .by) (at-loop .i) (omega arith) (omega arith) (omega arith) (at-loop .inv .2), simp length-set (at-loop .inv .3))
+    (omega arith, omega arith, down-turn (entry .room .now) (entry .from) (entry .from - entry .by) (at-loop .i) (at-loop .i - entry .by) (omega arith) (omega arith) (omega arith) (omega arith) (at-loop .inv .2), simp length-set (at-loop .inv .3))
 
 same-length : tie.Need-same-length Inv-loop μ-loop
 same-length c = c .before .loop .inv .3
@@ -56,11 +39,11 @@ move-down-spec =
     Inv-loop
     μ-loop
     loop-holds
-    slice-read-b
-    sub-room
-    slice-write-room
-    add-i
-    loop-less
+    (λ c. omega arith)
+    (λ c. omega arith)
+    (λ c. omega arith)
+    (λ c. omega arith)
+    (λ c. omega arith)
     loop-again
     same-length
     returns)

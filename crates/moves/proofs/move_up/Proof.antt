@@ -1,13 +1,11 @@
-use mathlib.Core.Path.{_≡_, refl, sym, ap, _∙_}
+use mathlib.Core.Path.{_≡_, refl, ap, _∙_}
 use Prim.Native.Nat.{_≤_, _+_, _-_}
 use native.Mathlib.Omega.{arith}
-use lib.ListN.{length, take, replicate, length-set}
-use lib.Seq.{sets, slice, slice-empty, take-all}
+use lib.ListN.{length, length-set}
+use lib.Seq.{sets, slice}
 use Rattle.moves.proofs.Stores.{up-turn, none-moved}
 use Rattle.moves.proofs.move_up.Statement.{statement}
 use Rattle.moves.proofs.move_up.Tie as tie
-use Rattle.moves.proofs.move_up.Reads as reads
-use Rattle.moves.proofs.move_up.Lts as lts
 
 abbrev Inv-loop : tie.InvT-loop
 Inv-loop room₀ from to by i₀ room i = (from ≤ i) × (i ≤ to) × (room ≡ sets room₀ (i + by) (slice i to room₀)) × (length room ≡ length room₀)
@@ -17,21 +15,6 @@ abbrev μ-loop : tie.MeasureT-loop
 
 loop-holds : tie.Need-loop-holds Inv-loop μ-loop
 loop-holds c = (omega arith, omega arith, none-moved (c .args .room .now) (c .args .to + c .args .by) (c .args .to), refl)
-
-sub-i : tie.Need-sub-i Inv-loop μ-loop
-sub-i c = omega arith
-
-slice-read-b : tie.Need-slice-read-b Inv-loop μ-loop
-slice-read-b c = omega arith
-
-add-room : tie.Need-add-room Inv-loop μ-loop
-add-room c = omega arith
-
-slice-write-room : tie.Need-slice-write-room Inv-loop μ-loop
-slice-write-room c = omega arith
-
-loop-less : tie.Need-loop-less Inv-loop μ-loop
-loop-less c = omega arith
 
 loop-again : tie.Need-loop-again Inv-loop μ-loop
 loop-again c =
@@ -56,11 +39,11 @@ move-up-spec =
     Inv-loop
     μ-loop
     loop-holds
-    sub-i
-    slice-read-b
-    add-room
-    slice-write-room
-    loop-less
+    (λ c. omega arith)
+    (λ c. omega arith)
+    (λ c. omega arith)
+    (λ c. omega arith)
+    (λ c. omega arith)
     loop-again
     same-length
     returns)

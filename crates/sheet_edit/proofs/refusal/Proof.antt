@@ -1,8 +1,8 @@
 use mathlib.Core.Path.{_≡_, sym, _∙_}
 use borrow.Author.Needs.{needs}
-use borrow.Author.Tests.{le-leb, lt-leb, not-true, not-false}
+use borrow.Author.Tests.{not-true, not-false}
 use lib.Seq.{length-take-le}
-use Rattle.sheet_edit.proofs.Whole.{past-room, no-sheet, no-name, by-size}
+use Rattle.sheet_edit.proofs.Whole.{past-room, no-sheet, no-name, long-body, no-refusal}
 use Rattle.sheet_edit.proofs.refusal.Statement.{statement}
 use Rattle.sheet_edit.proofs.refusal.Tie as tie
 
@@ -21,11 +21,11 @@ returns-3 c =
 
 returns-4 : tie.Need-returns-4
 returns-4 c =
-    by-size _ _ _ _ _ (c .before .before .before .before .before .before .if1 .left) (sym (c .before .before .before .before .is-sheet .ensures) ∙ not-false _ (c .before .before .before .if2 .left)) (sym (c .before .before .is-name .ensures) ∙ not-false _ (c .before .if3 .left)) (rw (lt-leb _ _ (c .if4 .taken)))
+    long-body _ _ _ _ (c .before .before .before .before .before .before .if1 .left) (sym (c .before .before .before .before .is-sheet .ensures) ∙ not-false _ (c .before .before .before .if2 .left)) (sym (c .before .before .is-name .ensures) ∙ not-false _ (c .before .if3 .left)) (c .if4 .taken)
 
 returns-5 : tie.Need-returns-5
 returns-5 c =
-    by-size _ _ _ _ _ (c .before .before .before .before .before .before .if1 .left) (sym (c .before .before .before .before .is-sheet .ensures) ∙ not-false _ (c .before .before .before .if2 .left)) (sym (c .before .before .is-name .ensures) ∙ not-false _ (c .before .if3 .left)) (rw (le-leb _ _ (c .if4 .left)))
+    no-refusal _ _ _ _ (c .before .before .before .before .before .before .if1 .left) (sym (c .before .before .before .before .is-sheet .ensures) ∙ not-false _ (c .before .before .before .if2 .left)) (sym (c .before .before .is-name .ensures) ∙ not-false _ (c .before .if3 .left)) (c .if4 .left)
 
 pub refusal-spec : {M : Type 1} → statement M
 refusal-spec =
