@@ -54,7 +54,8 @@ enum snatchblock_answer {
     SNATCHBLOCK_COMMAND_NOT_BUILT = 7, /* an optional command that this pack hasn't (3, UnsupportedCommand) */
     SNATCHBLOCK_READ_ONLY = 8,         /* a write to what is only read (4, AccessDenied); of the charger also a read of
                                           what is only written */
-    SNATCHBLOCK_BAD_SHEET = 9,         /* a block read, and one of the two sheets is none (7) */
+    SNATCHBLOCK_BAD_SHEET = 9,         /* a block read, and one of the two sheets is none (7); an edit, and the room's
+                                          front is no sheet of the stated length */
     SNATCHBLOCK_SERVED_CUT_OFF = 10,   /* minutes beyond the range (65,534, FE FF), or AtRateTimeToFull in power mode
                                           (FF FF): word and PEC are sent (5, Overflow/Underflow) */
     SNATCHBLOCK_BAD_SET_UP = 11,       /* DesignCapacity, full or DesignVoltage is 0, or remaining is above full */
@@ -63,7 +64,10 @@ enum snatchblock_answer {
     SNATCHBLOCK_NOT_A_CAPTURE = 14,
     SNATCHBLOCK_WRONG_LENGTH = 15, /* an exchange outside 2 to 37 bytes; a comparison of unequal lengths or over 37 */
     SNATCHBLOCK_TOO_MANY_ROWS = 16, /* a shelf's table of more than 64 rows */
-    SNATCHBLOCK_BAD_ROW = 17        /* a row of it with full or design 0, or with remaining above full */
+    SNATCHBLOCK_BAD_ROW = 17,       /* a row of it with full or design 0, or with remaining above full */
+    SNATCHBLOCK_BAD_TAG = 18,       /* an edit's tag isn't 20 to 23 */
+    SNATCHBLOCK_LONG_BODY = 19,     /* its body is over 32 bytes */
+    SNATCHBLOCK_LONG_SHEET = 20     /* its sheet would be longer than the room */
 };
 
 /*
@@ -76,6 +80,7 @@ enum snatchblock_answer {
  *   sample, transact, write_key,
  *     unescape, write_sheet,
  *     shelf_report, charger_transact  8-31: the bytes written to the front of the room; the rest of it stays
+ *   set_body, remove_body             8-31: the new sheet's length
  *   charger_current                   8-23: the current in mA
  *   exchange_check                    8: right
  *   bit_comparison                    8-31: bits that differ
@@ -179,7 +184,7 @@ static inline size_t snatchblock_step_next(uint64_t result) { return (size_t)(re
 
 /*
  * Room that is always enough: for a sample's broadcasts, a reply, a key, a sheet, a shelf's figures. Less is refused;
- * broadcasts in plain are served from 16 bytes on.
+ * broadcasts in plain are served from 16 bytes on, and an edit wherever its sheet fits.
  */
 #define SNATCHBLOCK_BROADCAST_ROOM 20
 #define SNATCHBLOCK_REPLY_ROOM 34
@@ -459,6 +464,19 @@ uint32_t snatchblock_write_sheet(uint8_t *room, size_t room_length, bool has20, 
                                  size_t length20, bool has21, const uint8_t *body21, size_t length21, bool has22,
                                  const uint8_t *body22, size_t length22, bool has23, const uint8_t *body23,
                                  size_t length23);
+
+/*
+ * Sets a body of up to 32 bytes in the sheet that the room holds in its first stated bytes: adds it, or puts it in the
+ * place of the one under its tag. Later bodies move, so that the result is the sheet that write_sheet gives of the same
+ * bodies. length_of is its length, for the next edit to state. Bytes past it within the old sheet become 0; all beyond
+ * both stay. Answers 0; 9: the room's front is no sheet of the stated length; 18: the tag isn't 20 to 23; 19: the body
+ * is over 32 bytes; 20: the sheet would be longer than the room. A refusal, looked for in that order, writes nothing.
+ */
+uint32_t snatchblock_set_body(uint8_t *room, size_t room_length, size_t stated, uint8_t tag, const uint8_t *body,
+                              size_t body_length);
+
+/* Removes the body of a tag, in the same way. A tag that is absent gives the sheet's own length. Answers 0, 9, 18. */
+uint32_t snatchblock_remove_body(uint8_t *room, size_t room_length, size_t stated, uint8_t tag);
 
 /* Whether bytes are a sheet. */
 bool snatchblock_is_sheet(const uint8_t *bytes, size_t length);

@@ -49,12 +49,13 @@ use Rattle.pec.specs.declared.Compared.{Compared}
 use Rattle.pack.specs.Sound.{soundOf}
 use Rattle.sheet.specs.Block.{Part, ofService, ofFactory, blockAnswer, goodSheets, partOf, locatedBy, locatedOf}
 use Rattle.sheet.specs.declared.Located.{Located}
+use Rattle.sheet_edit.specs.Edit.{holdsSheet, sheetAfter, isName, sizeOf, editAnswer, editOf}
 use Rattle.sheet_writer.specs.Writing.{sheetWrote, writable, short}
 use Rattle.shelf.specs.Shelf.{anyBad}
 use Rattle.shelf.proofs.Steps.{report-answer}
-use Rattle.answers.specs.Conditions.{commandOf, isReserved, isOptional, isDenied, isBlock, transactConditions, chargerTransactConditions, isNone, overflows, tableConditions}
+use Rattle.answers.specs.Conditions.{commandOf, isReserved, isOptional, isDenied, isBlock, transactConditions, chargerTransactConditions, isNone, overflows, editConditions, tableConditions}
 use Rattle.answers.specs.Lowest.{_when_, lowest, allAbove, rising, firstHolding}
-use Rattle.answers.specs.Promises.{TransactLowest, SetUpLowest, SampleLowest, LoadLowest, StoreLowest, ChargerTransactLowest, ChargerSampleLowest, ChargerLoadLowest, ChargerStoreLowest, WriteKeyLowest, ReadKeyLowest, FindLowest, UnescapeLowest, BlockLowest, LocateLowest, WriteSheetLowest, OpenLowest, StepLowest, WriteCaptureLowest, ExchangeLowest, ComparisonLowest, ReportLowest, TableReportLowest}
+use Rattle.answers.specs.Promises.{TransactLowest, SetUpLowest, SampleLowest, LoadLowest, StoreLowest, ChargerTransactLowest, ChargerSampleLowest, ChargerLoadLowest, ChargerStoreLowest, WriteKeyLowest, ReadKeyLowest, FindLowest, UnescapeLowest, BlockLowest, LocateLowest, WriteSheetLowest, EditLowest, OpenLowest, StepLowest, WriteCaptureLowest, ExchangeLowest, ComparisonLowest, ReportLowest, TableReportLowest}
 use Rattle.answers.proofs.Lowest.{first-is-lowest}
 
 -- ---- one condition
@@ -170,6 +171,22 @@ write-sheet-lowest es room =
     answers {A = Wrote} (λ r. r .answer) (writable es room) _ _
     ∙ unless 12 (writable es room)
     ∙ ap (λ c. lowest ((12 when c) ∷ [])) (not-both (short es) (leb 145 (length room)) (ltb (length room) 145) (not-at-least 145 (length room)))
+
+-- four tests, each passed or the answer
+by-tests : (a b c d : Bool) → cond a (cond b (cond c (cond d 0 20) 19) 18) 9 ≡ firstHolding ((9 when not a) ∷ (18 when not b) ∷ (19 when not c) ∷ (20 when not d) ∷ [])
+unfolding firstHolding
+by-tests true true true true = refl
+by-tests true true true false = refl
+by-tests true true false d = refl
+by-tests true false c d = refl
+by-tests false b c d = refl
+
+pub edit-lowest : EditLowest
+unfolding editOf editAnswer rising allAbove
+edit-lowest room stated tag to =
+    let new = length (sheetAfter room stated tag to) in
+    by-tests (holdsSheet room stated) (isName tag) (leb (sizeOf to) 32) (leb new (length room))
+    ∙ rw (not-at-least (sizeOf to) 32, not-at-least new (length room)) (sym (first-is-lowest (editConditions room stated tag to) refl))
 
 pub open-lowest : OpenLowest
 unfolding openedOf

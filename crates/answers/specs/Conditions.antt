@@ -26,6 +26,7 @@ use Rattle.start.specs.declared.Setup.{Setup}
 use Rattle.pack.specs.declared.State.{State}
 use Rattle.sheet.specs.Block.{goodSheets}
 use Rattle.sheet.specs.Sheet.{Entry}
+use Rattle.sheet_edit.specs.Edit.{holdsSheet, sheetAfter, isName, sizeOf}
 use Rattle.sheet_writer.specs.Writing.{short}
 use Rattle.shelf.specs.Shelf.{anyBad}
 use Rattle.shelf.specs.declared.Row.{Row}
@@ -178,6 +179,15 @@ blockConditions service factory = (9 when not (goodSheets service factory)) ∷ 
 -- 12: a body over 32 bytes, room under 145 (RULES 1.12)
 abbrev pub writeSheetConditions : List Entry → List ℕ → List Condition
 writeSheetConditions es room = (12 when (not (short es) || ltb (length room) 145)) ∷ []
+
+-- 9: no sheet of the stated length at the room's front; 18: the tag isn't 20 to 23; 19: the body is over 32 bytes; 20: the sheet would be longer than the room (RULES 1.9, 1.18 to 1.20)
+abbrev pub editConditions : List ℕ → ℕ → ℕ → Option (List ℕ) → List Condition
+editConditions room stated tag to =
+    (9 when not (holdsSheet room stated))
+    ∷ (18 when not (isName tag))
+    ∷ (19 when ltb 32 (sizeOf to))
+    ∷ (20 when ltb (length room) (length (sheetAfter room stated tag to)))
+    ∷ []
 
 -- 14: bytes aren't a capture (RULES 1.14)
 abbrev pub captureConditions : List ℕ → List Condition

@@ -3,6 +3,7 @@
 use Prim.Native.Nat.{ℕ}
 use mathlib.Core.Bool.{Bool}
 use mathlib.Core.List.{List}
+use mathlib.Core.Option.{Option}
 use mathlib.Core.Path.{_≡_}
 use Rattle.area.specs.Area.{loadedOf, storedOf}
 use Rattle.bus.specs.Transact.{transactOf}
@@ -23,11 +24,12 @@ use Rattle.pack.specs.declared.State.{State}
 use Rattle.pec.specs.Messages.{exchangeCheck, bitComparison}
 use Rattle.sheet.specs.Block.{blockAnswer, locatedOf}
 use Rattle.sheet.specs.Sheet.{Entry}
+use Rattle.sheet_edit.specs.Edit.{editOf}
 use Rattle.sheet_writer.specs.Writing.{sheetWrote}
 use Rattle.shelf.specs.Shelf.{reportOf}
 use Rattle.shelf.specs.declared.Row.{Row}
 use Rattle.shelf_table.specs.Table.{tableWrote}
-use Rattle.answers.specs.Conditions.{transactConditions, setUpConditions, sampleConditions, loadConditions, storeConditions, chargerTransactConditions, chargerSampleConditions, chargerLoadConditions, chargerStoreConditions, writeKeyConditions, readKeyConditions, unescapeConditions, blockConditions, writeSheetConditions, captureConditions, stepConditions, writeCaptureConditions, exchangeConditions, comparisonConditions, reportConditions, tableConditions}
+use Rattle.answers.specs.Conditions.{transactConditions, setUpConditions, sampleConditions, loadConditions, storeConditions, chargerTransactConditions, chargerSampleConditions, chargerLoadConditions, chargerStoreConditions, writeKeyConditions, readKeyConditions, unescapeConditions, blockConditions, writeSheetConditions, editConditions, captureConditions, stepConditions, writeCaptureConditions, exchangeConditions, comparisonConditions, reportConditions, tableConditions}
 use Rattle.answers.specs.Lowest.{lowest}
 
 -- `transact`
@@ -88,6 +90,10 @@ LocateLowest = (service factory : List ℕ) (tag : ℕ) → locatedOf service fa
 
 abbrev pub WriteSheetLowest : Type 0
 WriteSheetLowest = (es : List Entry) (room : List ℕ) → sheetWrote es room .answer ≡ lowest (writeSheetConditions es room)
+
+-- `set` and `remove`
+abbrev pub EditLowest : Type 0
+EditLowest = (room : List ℕ) (stated tag : ℕ) (to : Option (List ℕ)) → editOf room stated tag to .answer ≡ lowest (editConditions room stated tag to)
 
 -- `open`, `step_at`, `write_capture`
 abbrev pub OpenLowest : Type 0

@@ -12,30 +12,19 @@ use lib.Seq.{drop-append-seam, take-at, drop-at}
 use borrow.Author.Tests.{eq-eqb, eqb-true, leb-true, leb-false, le-leb}
 use Rattle.rooms.specs.Rooms.{Bytes}
 use Rattle.sheet.specs.Sheet.{Entry, old, sheetOf, isSheet, entriesIn, among, bodyIn}
-use Rattle.sheet.proofs.Lengths.{at-most-145}
 use Rattle.sheet.proofs.Tags.{allowed-short}
-use Rattle.sheet_laws.specs.Forms.{listable}
-use Rattle.sheet_laws.proofs.Entries.{among-allowed}
-use Rattle.sheet_laws.proofs.Forms.{old-proper, is-sheet}
+use Rattle.sheet_forms.specs.Forms.{listable}
+use Rattle.sheet_forms.proofs.Entries.{among-allowed}
+use Rattle.sheet_forms.proofs.Forms.{old-proper, is-sheet}
 use Rattle.sheet_laws.proofs.Named.{name-of}
 use Rattle.sheet_edit.specs.Edit.{edited, holdsSheet, sheetAfter, isName, sizeOf, editAnswer, editOf, roomWith, roomAfter}
+use Rattle.sheet_edit.proofs.Answers.{Passed, Done, done, is-done, may-stand, now, sheet-is, now-may, now-most}
+use Rattle.sheet_edit.proofs.After.{Allowed, edited-may}
 use Rattle.sheet_edit.proofs.Rooms.{Front, front, room-is, room-split}
 use Rattle.sheet_edit.proofs.Whole.{removed-fits}
 use Rattle.edit_laws.specs.Laws.{EditLists, EditReads, EditNamed, EditBehind, EditNothing, EditTwenty, EditRoomEnough, RemoveServed}
-use Rattle.edit_laws.proofs.Entries.{Allowed, edited-may, among-edited, same-entries}
-use Rattle.edit_laws.proofs.Rooms.{Done, done, is-done, may-stand, front-of, with-length, listed, in-front}
-
--- ---- the entries after an edit, and their sheet
-
-module _ {room : List ℕ} {stated : ℕ} (F : Front room stated) (tag : ℕ) (to : Option (List ℕ)) where
-  abbrev now : List Entry
-  now = edited tag to (F .entries)
-
-  pub sheet-is : sheetAfter room stated tag to ≡ sheetOf old now
-  sheet-is = ap (λ (x : List Entry). sheetOf old (edited tag to x)) (F .listed)
-
-  pub now-may : Allowed (old .kinds) tag to → listable (old .kinds) 0 now ≡ true
-  now-may a = edited-may (old .kinds) 0 tag to (F .entries) (F .may) (omega arith) a
+use Rattle.edit_laws.proofs.Entries.{among-edited, same-entries}
+use Rattle.edit_laws.proofs.Rooms.{front-of, with-length, listed, in-front}
 
 -- ---- a served edit
 
@@ -44,13 +33,13 @@ module _ (room : List ℕ) (stated tag : ℕ) (to : Option (List ℕ)) (bytes : 
   D = done room stated tag to e
 
   abbrev F : Front room stated
-  F = front room stated (D .holds) bytes
+  F = front room stated (D .tests .holds) bytes
 
   abbrev s : List ℕ
   s = sheetOf old (now F tag to)
 
   may : listable (old .kinds) 0 (now F tag to) ≡ true
-  may = now-may F tag to (may-stand tag to (D .name) (D .short))
+  may = now-may F tag to (may-stand tag to (D .tests .name) (D .tests .short))
 
   room-after : roomAfter room stated tag to ≡ roomWith s stated room
   room-after = D .room-is ∙ ap (λ (x : List ℕ). roomWith x stated room) (sheet-is F tag to)
@@ -133,7 +122,7 @@ module _ {room : List ℕ} {stated : ℕ} (F : Front room stated) (tag : ℕ) (n
       let t : List ℕ = sheetAfter room stated tag to in
       let old-one : t ≡ sheetOf old L = sheet-is F tag to ∙ ap (sheetOf old) (as-before to h) in
       let size : length t ≡ stated = ap length old-one ∙ sym (F .size) in
-      let e : editAnswer room stated tag to ≡ 0 = is-done room stated tag to ok name (short-there to (allowed-there to h)) (omega (arith, F .reach)) in
+      let e : editAnswer room stated tag to ≡ 0 = is-done room stated tag to (record { holds = ok; name = name; short = short-there to (allowed-there to h) }) (omega (arith, F .reach)) in
       let z : stated - length t ≡ 0 = omega arith in
       let y : length t - stated ≡ 0 = omega arith in
       let r : roomWith t stated room ≡ room =
@@ -157,9 +146,8 @@ twenty room stated tag to f k h = rw (f, k, le-leb _ _ h) (by-length (leb (lengt
 
 pub room-enough : EditRoomEnough
 room-enough room stated tag to bytes l ok name h =
-    let F = front room stated ok bytes in
-    let most = at-most-145 (sheetOf old (now F tag to)) (is-sheet old old-proper (now F tag to) (now-may F tag to (may-stand tag to name h))) in
-    is-done room stated tag to ok name h (omega (arith, ap length (sheet-is F tag to)))
+    let P : Passed room stated tag to = record { holds = ok; name = name; short = h } in
+    is-done room stated tag to P (omega (arith, now-most (front room stated ok bytes) tag to P))
 
 pub remove-served : RemoveServed
-remove-served room stated tag bytes ok name = is-done room stated tag none ok name (omega arith) (removed-fits (front room stated ok bytes) tag)
+remove-served room stated tag bytes ok name = is-done room stated tag none (record { holds = ok; name = name; short = omega arith }) (removed-fits (front room stated ok bytes) tag)

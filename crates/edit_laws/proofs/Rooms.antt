@@ -1,61 +1,19 @@
 -- Rooms that hold a sheet, and what a served edit makes of them. Assumes nothing.
 use mathlib.Core.Path.{_≡_, refl, sym, ap, _∙_}
-use mathlib.Core.Bool.{Bool, true, false, cond, _&&_, and-eq-true-iff}
+use mathlib.Core.Bool.{true}
 use mathlib.Core.List.{List, _++_, append-assoc}
-use mathlib.Core.Option.{Option, none, some}
+use mathlib.Core.Option.{none}
 use Prim.Native.Nat.{ℕ, _+_, _-_, max, _≤_}
 use native.Mathlib.Omega.{arith}
-use lib.Dec.{eqb, leb}
 use lib.ListN.{length, take, drop, replicate, length-append, length-drop, length-replicate, replicate-append-replicate}
-use lib.Seq.{drop-drop, take-append-seam, drop-append-seam}
-use borrow.Author.Tests.{le-leb, leb-true}
-use Rattle.sheet.specs.Sheet.{Entry, old, sheetOf, isSheet, entriesIn}
-use Rattle.sheet.proofs.Tags.{allows-is}
-use Rattle.sheet_laws.specs.Forms.{listable}
-use Rattle.sheet_laws.proofs.Entries.{few-entries, read-back}
-use Rattle.sheet_laws.proofs.Forms.{old-proper, is-sheet}
-use Rattle.sheet_edit.specs.Edit.{edited, holdsSheet, sheetAfter, isName, sizeOf, editAnswer, editOf, roomWith, roomAfter}
+use lib.Seq.{drop-drop, take-append-seam}
+use borrow.Author.Tests.{le-leb}
+use Rattle.sheet.specs.Sheet.{Entry, old, sheetOf, entriesIn}
+use Rattle.sheet_forms.specs.Forms.{listable}
+use Rattle.sheet_forms.proofs.Entries.{few-entries, read-back}
+use Rattle.sheet_forms.proofs.Forms.{old-proper, is-sheet}
+use Rattle.sheet_edit.specs.Edit.{holdsSheet, roomWith}
 use Rattle.sheet_edit.proofs.Rooms.{drop-zeros, room-split}
-use Rattle.edit_laws.proofs.Entries.{Allowed}
-
--- ---- a served edit
-
-pub record Done (room : List ℕ) (stated tag : ℕ) (to : Option (List ℕ)) : Type 0 where
-  pub holds : holdsSheet room stated ≡ true
-  pub name : isName tag ≡ true
-  pub short : sizeOf to ≤ 32
-  pub fits : length (sheetAfter room stated tag to) ≤ length room
-  pub room-is : roomAfter room stated tag to ≡ roomWith (sheetAfter room stated tag to) stated room
-  pub length-is : editOf room stated tag to .length ≡ length (sheetAfter room stated tag to)
-
-abbrev answer : Bool → Bool → Bool → Bool → ℕ
-answer a b c d = cond a (cond b (cond c (cond d 0 20) 19) 18) 9
-
-passed : (a b c d : Bool) → answer a b c d ≡ 0 → (a ≡ true) × (b ≡ true) × (c ≡ true) × (d ≡ true)
-passed true true true true e = (refl, refl, refl, refl)
-passed true true true false e = absurd (omega arith)
-passed true true false d e = absurd (omega arith)
-passed true false c d e = absurd (omega arith)
-passed false b c d e = absurd (omega arith)
-
-module _ (room : List ℕ) (stated tag : ℕ) (to : Option (List ℕ)) where
-  abbrev s : List ℕ
-  s = sheetAfter room stated tag to
-
-  pub done : editAnswer room stated tag to ≡ 0 → Done room stated tag to
-  unfolding editAnswer editOf roomAfter
-  done e =
-      let p = passed (holdsSheet room stated) (isName tag) (leb (sizeOf to) 32) (leb (length s) (length room)) e in
-      record { holds = p .0; name = p .1; short = leb-true _ _ (p .2); fits = leb-true _ _ (p .3); room-is = rw e; length-is = rw e }
-
-  pub is-done : holdsSheet room stated ≡ true → isName tag ≡ true → sizeOf to ≤ 32 → length s ≤ length room → editAnswer room stated tag to ≡ 0
-  unfolding editAnswer
-  is-done a b c d = rw (a, b, le-leb _ _ c, le-leb _ _ d)
-
--- what passes the tests may be listed
-pub may-stand : (tag : ℕ) (to : Option (List ℕ)) → isName tag ≡ true → sizeOf to ≤ 32 → Allowed (old .kinds) tag to
-may-stand tag none n h = tt
-may-stand tag (some body) n h = allows-is tag (length body) ∙ rw (n, le-leb _ _ h)
 
 -- ---- rooms over rooms
 

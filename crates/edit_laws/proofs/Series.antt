@@ -1,28 +1,31 @@
 -- The theorems on several edits: a series leaves the sheet of the final bodies, as the writer gives it. Assumes nothing.
 use mathlib.Core.Path.{_≡_, refl, sym, ap, subst, _∙_}
-use mathlib.Core.Bool.{Bool, true, false, cond, _&&_, and-true, and-false}
-use mathlib.Core.List.{List, [], _∷_, _++_}
+use mathlib.Core.Bool.{Bool, true, false, cond, and-true, and-false}
+use mathlib.Core.List.{List, [], _∷_}
 use mathlib.Core.Option.{Option, none, some}
-use Prim.Native.Nat.{ℕ, _+_, _-_, max, _≤_}
+use Prim.Native.Nat.{ℕ, _-_, max, _≤_}
 use native.Mathlib.Omega.{arith}
 use lib.Dec.{eqb}
-use lib.ListN.{length, take, drop}
+use lib.ListN.{length, drop}
 use lib.Seq.{take-append-seam}
 use borrow.Author.Tests.{eqb-true, le-leb}
-use Rattle.rooms.specs.Rooms.{Bytes, placed, wrote}
+use Rattle.rooms.specs.Rooms.{Bytes, wrote}
 use Rattle.sheet.specs.Sheet.{Entry, old, sheetOf, entriesIn, among, bodyIn}
 use Rattle.sheet_writer.specs.Writing.{entryIf, choice, short, writable, sheetWrote, sheetRoom}
 use Rattle.sheet_writer.proofs.Laid.{choice-few}
-use Rattle.sheet_laws.specs.Forms.{listable, SheetOfSome, Written, givenTo}
+use Rattle.sheet_forms.specs.Forms.{listable}
+use Rattle.sheet_laws.specs.Written.{givenTo}
 use Rattle.sheet_laws.proofs.Choices.{chosen, body-back}
-use Rattle.sheet_laws.proofs.Entries.{few-entries, read-back}
-use Rattle.sheet_laws.proofs.Forms.{old-proper, one-choice}
-use Rattle.sheet_edit.specs.Edit.{edited, holdsSheet, sheetAfter, editAnswer, roomWith, roomAfter}
+use Rattle.sheet_forms.proofs.Entries.{few-entries}
+use Rattle.sheet_forms.proofs.Forms.{old-proper, one-choice}
+use Rattle.sheet_edit.specs.Edit.{edited, holdsSheet, sheetAfter, roomWith, roomAfter}
+use Rattle.sheet_edit.proofs.Answers.{done, may-stand}
+use Rattle.sheet_edit.proofs.After.{edited-may}
 use Rattle.sheet_edit.proofs.Rooms.{front, room-is, room-split}
 use Rattle.edit_laws.specs.Series.{Edit, Held, isServed, next, after, longest, Bodies, withEdit, finally, isThere, bytesOf, choiceOf, sheetIn, endBodies}
 use Rattle.edit_laws.specs.Laws.{SeriesLeaves, SeriesAfresh, EditsCommute}
-use Rattle.edit_laws.proofs.Entries.{edited-may, either, among-edited}
-use Rattle.edit_laws.proofs.Rooms.{done, may-stand, compose, up-to, front-of, listed}
+use Rattle.edit_laws.proofs.Entries.{either, among-edited}
+use Rattle.edit_laws.proofs.Rooms.{compose, up-to, front-of, listed}
 
 -- ---- entries that may be listed are the writer's choice of what they have
 
@@ -97,7 +100,7 @@ module _ (e : Edit) (h : Held) (had : Bodies) (top : ℕ) (room₀ : List ℕ) (
       ap (λ (x : List ℕ). roomWith x (h .stated) (h .room)) sheet-is ∙ ap (λ (k : ℕ). roomWith t k (h .room)) (H .stated-is) ∙ ap (λ (x : List ℕ). roomWith t (length S) x) (H .room-is) ∙ compose S t room₀ top in
       record {
         entries = now;
-        may = edited-may (old .kinds) 0 (e .tag) (e .to) (H .entries) (H .may) (omega arith) (may-stand (e .tag) (e .to) (D .name) (D .short));
+        may = edited-may (old .kinds) 0 (e .tag) (e .to) (H .entries) (H .may) (omega arith) (may-stand (e .tag) (e .to) (D .tests .name) (D .tests .short));
         has = λ tag. among-edited (old .kinds) 0 tag (e .tag) (e .to) (H .entries) (H .may) ∙ ap (λ (o : Option (List ℕ)). cond (eqb (e .tag) tag) (e .to) o) (H .has tag);
         stated-is = size;
         reach = omega arith;

@@ -3,7 +3,7 @@ use mathlib.Core.Path.{_≡_}
 use mathlib.Core.List.{List, [], _∷_}
 use mathlib.Core.Option.{none, some}
 use Prim.Native.Nat.{ℕ}
-use Rattle.sheet_edit.specs.Edit.{editAnswer, editOf, roomAfter}
+use Rattle.sheet_edit.specs.Edit.{editOf, roomAfter}
 
 -- seven bytes with the empty sheet in the first
 abbrev pub seven : List ℕ

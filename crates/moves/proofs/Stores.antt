@@ -1,11 +1,11 @@
 -- Stores one after the other, and the turns of the moves. Assumes nothing.
-use mathlib.Core.Path.{_≡_, refl, sym, ap, _∙_}
+use mathlib.Core.Path.{_≡_, refl, ap, _∙_}
 use mathlib.Core.List.{List, [], _∷_, _++_}
 use Prim.Native.Nat.{ℕ, zero, suc, _+_, _-_, _≤_, _<_}
 use native.Mathlib.Nat.{add-zero}
 use native.Mathlib.Numerals.{add-one}
 use native.Mathlib.Omega.{arith}
-use lib.ListN.{length, take, drop, getD, set, replicate, length-replicate, replicate-append-replicate}
+use lib.ListN.{length, take, getD, set, replicate, length-replicate, replicate-append-replicate}
 use lib.Seq.{sets, slice, slice-empty, take-suc, length-take-le, set-comm, getD-set-other, slice-cons, length-slice, drop-append-le}
 use Rattle.rooms.proofs.Rooms.{then}
 

@@ -2,7 +2,7 @@
 -- Assumes nothing.
 use mathlib.Core.Path.{refl}
 use Rattle.outcomes.specs.Outcome.{Settled}
-use Rattle.outcomes.specs.ForC.{snatchblockPecTerms, snatchblockExchangeCheckTerms, snatchblockBitComparisonTerms, snatchblockWriteKeyTerms, snatchblockReadKeyTerms, snatchblockUnescapeTerms, snatchblockWriteSheetTerms, snatchblockIsSheetTerms, snatchblockBlockTerms, snatchblockOpenCaptureTerms, snatchblockStepCaptureTerms, snatchblockShelfReportTerms, snatchblockSetUpTerms, snatchblockSoundTerms, snatchblockSampleTerms, snatchblockTransactTerms, snatchblockChargerSetUpTerms, snatchblockChargerSoundTerms, snatchblockChargerSampleTerms, snatchblockChargerTransactTerms, snatchblockChargerCurrentTerms}
+use Rattle.outcomes.specs.ForC.{snatchblockPecTerms, snatchblockExchangeCheckTerms, snatchblockBitComparisonTerms, snatchblockWriteKeyTerms, snatchblockReadKeyTerms, snatchblockUnescapeTerms, snatchblockWriteSheetTerms, snatchblockSetBodyTerms, snatchblockRemoveBodyTerms, snatchblockIsSheetTerms, snatchblockBlockTerms, snatchblockOpenCaptureTerms, snatchblockStepCaptureTerms, snatchblockShelfReportTerms, snatchblockSetUpTerms, snatchblockSoundTerms, snatchblockSampleTerms, snatchblockTransactTerms, snatchblockChargerSetUpTerms, snatchblockChargerSoundTerms, snatchblockChargerSampleTerms, snatchblockChargerTransactTerms, snatchblockChargerCurrentTerms}
 use Rattle.outcomes.proofs.One.{settled}
 use Rattle.snatchblock.proofs.snatchblock_pec as snatchblock-pec-owed
 use Rattle.snatchblock.proofs.snatchblock_exchange_check as snatchblock-exchange-check-owed
@@ -11,6 +11,8 @@ use Rattle.snatchblock.proofs.snatchblock_write_key as snatchblock-write-key-ow
 use Rattle.snatchblock.proofs.snatchblock_read_key as snatchblock-read-key-owed
 use Rattle.snatchblock.proofs.snatchblock_unescape as snatchblock-unescape-owed
 use Rattle.snatchblock.proofs.snatchblock_write_sheet as snatchblock-write-sheet-owed
+use Rattle.snatchblock.proofs.snatchblock_set_body as snatchblock-set-body-owed
+use Rattle.snatchblock.proofs.snatchblock_remove_body as snatchblock-remove-body-owed
 use Rattle.snatchblock.proofs.snatchblock_is_sheet as snatchblock-is-sheet-owed
 use Rattle.snatchblock.proofs.snatchblock_block as snatchblock-block-owed
 use Rattle.snatchblock.proofs.snatchblock_open_capture as snatchblock-open-capture-owed
@@ -46,6 +48,12 @@ snatchblock-unescape-settled = settled snatchblockUnescapeTerms (λ M 𝓤 H A m
 
 pub snatchblock-write-sheet-settled : Settled (λ M. snatchblock-write-sheet-owed.clauses {M = M}) snatchblockWriteSheetTerms
 snatchblock-write-sheet-settled = settled snatchblockWriteSheetTerms (λ M 𝓤 H A memory run. refl)
+
+pub snatchblock-set-body-settled : Settled (λ M. snatchblock-set-body-owed.clauses {M = M}) snatchblockSetBodyTerms
+snatchblock-set-body-settled = settled snatchblockSetBodyTerms (λ M 𝓤 H A memory run. refl)
+
+pub snatchblock-remove-body-settled : Settled (λ M. snatchblock-remove-body-owed.clauses {M = M}) snatchblockRemoveBodyTerms
+snatchblock-remove-body-settled = settled snatchblockRemoveBodyTerms (λ M 𝓤 H A memory run. refl)
 
 pub snatchblock-is-sheet-settled : Settled (λ M. snatchblock-is-sheet-owed.clauses {M = M}) snatchblockIsSheetTerms
 snatchblock-is-sheet-settled = settled snatchblockIsSheetTerms (λ M 𝓤 H A memory run. refl)

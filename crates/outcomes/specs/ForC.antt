@@ -9,17 +9,19 @@ use Rattle.key_writer.specs.Writing as writing
 use Rattle.names.specs.Names as names
 use Rattle.outcomes.specs.Outcome.{Terms, termsOf}
 use Rattle.start.specs.SetUp.{setUpOf}
-use Rattle.packed.specs.Packed.{checkNumber, comparisonNumber, locatedNumber, openedNumber, readNumber, stepNumber, wroteNumber}
+use Rattle.packed.specs.Packed.{checkNumber, comparisonNumber, editedNumber, locatedNumber, openedNumber, readNumber, stepNumber, wroteNumber}
 use Rattle.pec.specs.Messages.{bitComparison, exchangeCheck}
 use Rattle.pec.specs.Pec.{pecOf}
 use Rattle.sheet.specs.Block.{locatedOf}
 use Rattle.sheet.specs.Sheet.{isSheet}
+use Rattle.sheet_edit.specs.Edit.{editOf, roomAfter}
 use Rattle.sheet_writer.specs.Writing as sheets
 use Rattle.shelf_table.specs.Table.{tableRoom, tableWrote}
 use Rattle.snatchblock.specs.Given.{sampleWith, setupWith}
 use denote.Ref.{now}
 use mathlib.Core.Bool.{Bool}
 use mathlib.Core.List.{List, [], _∷_}
+use mathlib.Core.Option.{none, some}
 use Rattle.snatchblock.proofs.snatchblock_pec as snatchblock-pec-owed
 use Rattle.snatchblock.proofs.snatchblock_exchange_check as snatchblock-exchange-check-owed
 use Rattle.snatchblock.proofs.snatchblock_bit_comparison as snatchblock-bit-comparison-owed
@@ -27,6 +29,8 @@ use Rattle.snatchblock.proofs.snatchblock_write_key as snatchblock-write-key-ow
 use Rattle.snatchblock.proofs.snatchblock_read_key as snatchblock-read-key-owed
 use Rattle.snatchblock.proofs.snatchblock_unescape as snatchblock-unescape-owed
 use Rattle.snatchblock.proofs.snatchblock_write_sheet as snatchblock-write-sheet-owed
+use Rattle.snatchblock.proofs.snatchblock_set_body as snatchblock-set-body-owed
+use Rattle.snatchblock.proofs.snatchblock_remove_body as snatchblock-remove-body-owed
 use Rattle.snatchblock.proofs.snatchblock_is_sheet as snatchblock-is-sheet-owed
 use Rattle.snatchblock.proofs.snatchblock_block as snatchblock-block-owed
 use Rattle.snatchblock.proofs.snatchblock_open_capture as snatchblock-open-capture-owed
@@ -90,6 +94,20 @@ snatchblockWriteSheetTerms = termsOf
     (ℕ ∷ List ℕ ∷ [])
     (λ κs r (room, (_, (_, (_, (_, (_, (_, (_, (_, _))))))))). (r, (now room, tt)))
     (λ κs (room, (has20, (body20, (has21, (body21, (has22, (body22, (has23, (body23, _))))))))). (wroteNumber (sheets.sheetWrote (sheets.choice has20 (now body20) has21 (now body21) has22 (now body22) has23 (now body23)) (now room)), (sheets.sheetRoom (sheets.choice has20 (now body20) has21 (now body21) has22 (now body22) has23 (now body23)) (now room), tt)))
+
+-- `snatchblock_set_body`
+abbrev pub snatchblockSetBodyTerms : Terms snatchblock-set-body-owed.ended
+snatchblockSetBodyTerms = termsOf
+    (ℕ ∷ List ℕ ∷ [])
+    (λ κs r (room, (_, (_, (_, _)))). (r, (now room, tt)))
+    (λ κs (room, (stated, (tag, (body, _)))). (editedNumber (editOf (now room) stated tag (some (now body))), (roomAfter (now room) stated tag (some (now body)), tt)))
+
+-- `snatchblock_remove_body`
+abbrev pub snatchblockRemoveBodyTerms : Terms snatchblock-remove-body-owed.ended
+snatchblockRemoveBodyTerms = termsOf
+    (ℕ ∷ List ℕ ∷ [])
+    (λ κs r (room, (_, (_, _))). (r, (now room, tt)))
+    (λ κs (room, (stated, (tag, _))). (editedNumber (editOf (now room) stated tag none), (roomAfter (now room) stated tag none, tt)))
 
 -- `snatchblock_is_sheet`
 abbrev pub snatchblockIsSheetTerms : Terms snatchblock-is-sheet-owed.ended

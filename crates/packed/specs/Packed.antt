@@ -14,6 +14,7 @@ use Rattle.pec.specs.declared.Checked.{Checked}
 use Rattle.pec.specs.declared.Compared.{Compared}
 use Rattle.rooms.specs.declared.Wrote.{Wrote}
 use Rattle.sheet.specs.declared.Located.{Located}
+use Rattle.sheet_edit.specs.declared.Edited.{Edited}
 
 -- an answer, and a number above it (RULES 12.3)
 abbrev pub packed : ℕ → ℕ → ℕ
@@ -36,6 +37,10 @@ comparisonNumber c = packed (c .answer) (c .bits)
 -- of a key, a name or a sheet written: length
 abbrev pub wroteNumber : Wrote → ℕ
 wroteNumber w = packed (w .answer) (w .length)
+
+-- of an edit: the new sheet's length
+abbrev pub editedNumber : Edited → ℕ
+editedNumber e = packed (e .answer) (e .length)
 
 -- of a capture opened: rows, place of the first body
 abbrev pub openedNumber : Opened → ℕ

@@ -2,7 +2,7 @@
 ghost use mathlib.Core.Path.{_≡_};
 ghost use Prim.Native.Nat.{_+_, _-_, _*_, _<_, _≤_};
 ghost use Rattle.capture.specs.Capture.{captureMost};
-ghost use Rattle.packed.specs.Packed.{packed, oneIf, checkNumber, comparisonNumber, wroteNumber, openedNumber, keyNumber, locatedNumber, stepNumber, RowFits};
+ghost use Rattle.packed.specs.Packed.{packed, oneIf, checkNumber, comparisonNumber, wroteNumber, editedNumber, openedNumber, keyNumber, locatedNumber, stepNumber, RowFits};
 use capture::Opened;
 use capture::Step;
 use key::Read;
@@ -10,6 +10,7 @@ use pec::Checked;
 use pec::Compared;
 use rooms::Wrote;
 use sheet::Located;
+use sheet_edit::Edited;
 
 fn one_if(b: bool) -> usize
     ensures { λ r. ⌜ (r ≡ oneIf b) × (r < 2) ⌝ }
@@ -46,6 +47,13 @@ pub fn wrote(w: Wrote) -> u32
     ensures { λ r. ⌜ r ≡ wroteNumber w ⌝ }
 {
     pack_up(w.answer, w.length)
+}
+
+pub fn edited(e: Edited) -> u32
+    requires { ⌜ e .length < 16777216 ⌝ }
+    ensures { λ r. ⌜ r ≡ editedNumber e ⌝ }
+{
+    pack_up(e.answer, e.length)
 }
 
 pub fn opened(o: Opened) -> u32

@@ -1,5 +1,5 @@
 -- Entries that may be listed are those below a tag, those with it and those above it; and the rows that are counted. Assumes nothing.
-use mathlib.Core.Path.{_≡_, refl, sym, ap, _∙_}
+use mathlib.Core.Path.{_≡_, refl, ap, _∙_}
 use mathlib.Core.Bool.{Bool, true, false, cond}
 use mathlib.Core.List.{List, [], _∷_, _++_}
 use Prim.Native.Nat.{ℕ, zero, suc, _+_, _≤_, _<_}
@@ -8,8 +8,8 @@ use lib.Dec.{ltb, eqb}
 use lib.ListN.{length}
 use borrow.Author.Tests.{lt-ltb, le-ltb, eq-eqb, ne-eqb, ltb-true, ltb-false}
 use Rattle.sheet.specs.Sheet.{Entry, TagKind, tagAt, entriesFrom}
-use Rattle.sheet_laws.specs.Forms.{listable}
-use Rattle.sheet_laws.proofs.Entries.{first}
+use Rattle.sheet_forms.specs.Forms.{listable}
+use Rattle.sheet_forms.proofs.Entries.{first}
 use Rattle.sheet_steps.specs.Steps.{countBelow}
 use Rattle.sheet_edit.specs.Edit.{below, above}
 

@@ -1,20 +1,20 @@
 -- A room with a sheet at its front: the old one and all behind it, in parts. Assumes nothing.
-use mathlib.Core.Path.{_≡_, refl, sym, ap, _∙_}
-use mathlib.Core.Bool.{Bool, true, _&&_, and-eq-true-iff}
+use mathlib.Core.Path.{_≡_, sym, ap, _∙_}
+use mathlib.Core.Bool.{true, and-eq-true-iff}
 use mathlib.Core.List.{List, _++_}
 use Prim.Native.Nat.{ℕ, zero, suc, _+_, _*_, _-_, max, _≤_, _<_}
 use native.Mathlib.Omega.{arith}
 use lib.Dec.{leb}
-use lib.ListN.{length, getD, take, drop, replicate, length-append, take-append-drop}
+use lib.ListN.{length, getD, take, drop, replicate, take-append-drop}
 use lib.Seq.{drop-append-add, getD-take, length-take-le}
 use borrow.Author.Tests.{leb-true}
 use Rattle.rooms.specs.Rooms.{Bytes}
 use Rattle.rooms.proofs.Rooms.{first-bytes}
-use Rattle.sheet.specs.Sheet.{Entry, old, bodiesOf, sheetOf, isSheet, entriesIn}
+use Rattle.sheet.specs.Sheet.{Entry, old, sheetOf, isSheet, entriesIn}
 use Rattle.sheet.proofs.Entries.{sheet-size}
-use Rattle.sheet_laws.specs.Forms.{listable}
-use Rattle.sheet_laws.proofs.Entries.{few-entries, read-back}
-use Rattle.sheet_laws.proofs.Forms.{old-proper, exactly}
+use Rattle.sheet_forms.specs.Forms.{listable}
+use Rattle.sheet_forms.proofs.Entries.{few-entries, read-back}
+use Rattle.sheet_forms.proofs.Forms.{old-proper, exactly}
 use Rattle.sheet_edit.specs.Edit.{holdsSheet, roomWith}
 
 -- ---- zeros, and what stood there

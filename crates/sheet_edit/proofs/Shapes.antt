@@ -7,10 +7,10 @@ use lib.ListN.{length, getD, set, drop, replicate, length-append, length-drop, r
 use lib.Seq.{drop-drop, getD-append-add}
 use Rattle.moves.specs.Moves.{cutOut, inserted}
 use Rattle.moves.proofs.Parts.{cut-parts, insert-parts}
-use Rattle.sheet.specs.Sheet.{Entry, Form, rowsOf, bodiesOf, sheetOf, lengthAt, offsetAt}
+use Rattle.sheet.specs.Sheet.{Entry, Form, rowsOf, bodiesOf, sheetOf, offsetAt}
 use Rattle.sheet.proofs.Entries.{rows-append, bodies-append, bodies-length, sheet-size}
 use Rattle.sheet.proofs.Lengths.{rows-length}
-use Rattle.sheet_laws.proofs.Entries.{row}
+use Rattle.sheet_forms.proofs.Entries.{row}
 use Rattle.sheet_steps.specs.declared.Span.{Span}
 use Rattle.sheet_steps.specs.Steps.{placeIn, laidRows, laid, takenOut, putIn}
 use Rattle.sheet_steps.proofs.Walk.{in-row, past-rows}

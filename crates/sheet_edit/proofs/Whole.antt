@@ -1,22 +1,17 @@
 -- The edits as wholes: what the steps leave is the room of the definition, and each answer is its own. Assumes nothing.
-use mathlib.Core.Path.{_≡_, refl, sym, ap, _∙_}
-use mathlib.Core.Bool.{Bool, true, false, cond, and-eq-true-iff}
-use mathlib.Core.List.{List, [], _∷_, _++_, append-assoc}
-use mathlib.Core.Option.{Option, none, some}
+use mathlib.Core.Path.{_≡_, sym, ap, _∙_}
+use mathlib.Core.List.{List, _∷_, _++_, append-assoc}
+use mathlib.Core.Option.{none, some}
 use Prim.Native.Nat.{ℕ, _+_, _*_, _-_, _^_, _≤_, _<_}
 use native.Mathlib.Omega.{arith}
-use lib.Dec.{leb}
 use lib.ListN.{length, getD, take, drop, replicate, length-append, length-replicate, length-drop}
-use borrow.Author.Tests.{le-leb, lt-leb, leb-true, ne-eqb}
-use Rattle.sheet.specs.Sheet.{Entry, old, bodiesOf, sheetOf, isSheet, rowsListed, entriesFrom, entriesIn}
+use Rattle.sheet.specs.Sheet.{Entry, old, bodiesOf, sheetOf, rowsListed, entriesFrom}
 use Rattle.sheet.proofs.Entries.{bodies-length, sheet-size}
-use Rattle.sheet_laws.proofs.Entries.{read-back}
-use Rattle.sheet_laws.proofs.Forms.{old-proper}
+use Rattle.sheet_forms.proofs.Entries.{read-back}
+use Rattle.sheet_forms.proofs.Forms.{old-proper}
 use Rattle.sheet_steps.specs.declared.Span.{Span}
 use Rattle.sheet_steps.specs.Steps.{countBelow, placeIn, spanIn, takenOut, putIn}
-use Rattle.sheet_edit.specs.declared.Edited.{Edited}
-use Rattle.sheet_edit.specs.Edit.{below, above, entryFor, edited, holdsSheet, sheetAfter, isName, sizeOf, editAnswer, editOf, roomWith, roomAfter}
-use Rattle.sheet_edit.specs.Tests.{refusalOf}
+use Rattle.sheet_edit.specs.Edit.{below, above, edited, sheetAfter, roomWith}
 use Rattle.sheet_edit.proofs.Entries.{same, Parts, parts, count-is}
 use Rattle.sheet_edit.proofs.Rooms.{drop-zeros, room-split, Front, room-is}
 use Rattle.sheet_edit.proofs.Shapes.{place-is, taken-out, put-in}
@@ -257,80 +252,3 @@ module _ {room : List ℕ} {stated : ℕ} (F : Front room stated) (tag : ℕ) wh
 -- the new length is a number that the code can hold
 pub holds-length : {left room size : ℕ} → left ≤ room → room < 2 ^ 63 → size < 2 ^ 62 → left + size + 4 < 2 ^ 64
 holds-length h r s = omega arith
-
--- ---- each answer, by the tests that led to it
-
--- a name's tag leaves room above it
-pub name-most : (tag : ℕ) → isName tag ≡ true → tag ≤ 0x23
-name-most tag e = leb-true tag 0x23 (and-eq-true-iff (leb 0x20 tag) (leb tag 0x23) .0 e .1)
-
--- 9, 18 or 19 by three tests, or what follows them
-abbrev chain : Bool → Bool → Bool → ℕ → ℕ
-chain x y z l = cond x (cond y (cond z l 19) 18) 9
-
-all-passed : (x y z : Bool) → chain x y z 0 ≡ 0 → (x ≡ true) × (y ≡ true) × (z ≡ true)
-all-passed true true true e = (refl, refl, refl)
-all-passed true true false e = absurd (omega arith)
-all-passed true false z e = absurd (omega arith)
-all-passed false y z e = absurd (omega arith)
-
-one-failed : (x y z : Bool) (l : ℕ) → (chain x y z 0 ≡ 0 → ⊥) → chain x y z 0 ≡ chain x y z l
-one-failed true true true l ne = absurd (ne refl)
-one-failed true true false l ne = refl
-one-failed true false z l ne = refl
-one-failed false y z l ne = refl
-
-module _ (room : List ℕ) (stated tag : ℕ) where
-  pub past-room : (size : ℕ) → length room < stated → 9 ≡ refusalOf room stated tag size
-  unfolding refusalOf holdsSheet
-  past-room size h = rw (lt-leb _ _ h)
-
-  pub no-sheet : (size : ℕ) → stated ≤ length room → isSheet (take stated room) ≡ false → 9 ≡ refusalOf room stated tag size
-  unfolding refusalOf holdsSheet
-  no-sheet size h e = rw (le-leb _ _ h, e)
-
-  pub no-name : (size : ℕ) → stated ≤ length room → isSheet (take stated room) ≡ true → isName tag ≡ false → 18 ≡ refusalOf room stated tag size
-  unfolding refusalOf holdsSheet
-  no-name size h e k = rw (le-leb _ _ h, e, k)
-
-  pub long-body : (size : ℕ) → stated ≤ length room → isSheet (take stated room) ≡ true → isName tag ≡ true → 32 < size → 19 ≡ refusalOf room stated tag size
-  unfolding refusalOf holdsSheet
-  long-body size h e k l = rw (le-leb _ _ h, e, k, lt-leb _ _ l)
-
-  pub no-refusal : (size : ℕ) → stated ≤ length room → isSheet (take stated room) ≡ true → isName tag ≡ true → size ≤ 32 → 0 ≡ refusalOf room stated tag size
-  unfolding refusalOf holdsSheet
-  no-refusal size h e k l = rw (le-leb _ _ h, e, k, le-leb _ _ l)
-
-  module _ (to : Option (List ℕ)) where
-    -- what comes out: the result and the room
-    abbrev Owed : Edited → List ℕ → Type 0
-    Owed r s = (r ≡ editOf room stated tag to) × (s ≡ roomAfter room stated tag to)
-
-    by-answer : (a : ℕ) → a ≡ editAnswer room stated tag to → (a ≡ 0 → ⊥) → Owed (record { answer = a; length = 0 }) room
-    unfolding editOf roomAfter
-    by-answer a e ne = let z = ne-eqb a 0 ne in (rw (← e, z), rw (← e, z))
-
-    -- no refusal: each test is passed
-    pub record Passed : Type 0 where
-      pub holds : holdsSheet room stated ≡ true
-      pub name : isName tag ≡ true
-      pub short : sizeOf to ≤ 32
-
-    pub passed : (a : ℕ) → a ≡ refusalOf room stated tag (sizeOf to) → a ≡ 0 → Passed
-    unfolding refusalOf
-    passed a e z =
-        let t = all-passed (holdsSheet room stated) (isName tag) (leb (sizeOf to) 32) (sym e ∙ z) in
-        record { holds = t .0; name = t .1; short = leb-true _ _ (t .2) }
-
-    pub refused : (a : ℕ) → a ≡ refusalOf room stated tag (sizeOf to) → (a ≡ 0 → ⊥) → Owed (record { answer = a; length = 0 }) room
-    unfolding refusalOf editAnswer
-    refused a e ne = by-answer a (e ∙ one-failed (holdsSheet room stated) (isName tag) (leb (sizeOf to) 32) _ (λ z. ne (e ∙ z))) ne
-
-    pub too-long : Passed → length room < length (sheetAfter room stated tag to) → Owed (record { answer = 20; length = 0 }) room
-    unfolding editAnswer
-    too-long P h = by-answer 20 (rw (P .holds, P .name, le-leb _ _ (P .short), lt-leb _ _ h)) (λ z. omega arith)
-
-    pub served : Passed → length (sheetAfter room stated tag to) ≤ length room → (a l : ℕ) (s : List ℕ) → a ≡ 0 → l ≡ length (sheetAfter room stated tag to)
-        → s ≡ roomWith (sheetAfter room stated tag to) stated room → Owed (record { answer = a; length = l }) s
-    unfolding editOf roomAfter editAnswer
-    served P h a l s z e q = let m = le-leb _ _ h in let k = le-leb _ _ (P .short) in (rw (P .holds, P .name, k, m, z, e), rw (P .holds, P .name, k, m) q)

@@ -12,10 +12,11 @@ use Rattle.sheet.specs.Sheet.{Entry, old, sheetOf, allows, isSheet, among}
 use Rattle.sheet.proofs.Tags.{allows-is, allowed-short}
 use Rattle.sheet_writer.specs.Writing.{entryIf, choice, short}
 use Rattle.sheet_writer.proofs.Laid.{choice-few}
-use Rattle.sheet_laws.specs.Forms.{listable, SheetOfSome, Written}
+use Rattle.sheet_forms.specs.Forms.{listable, SheetOfSome}
+use Rattle.sheet_laws.specs.Written.{Written}
 use Rattle.sheet_laws.specs.Laws.{SheetWritten, SheetBodyBack}
-use Rattle.sheet_laws.proofs.Entries.{first, cons, lower, read-back}
-use Rattle.sheet_laws.proofs.Forms.{old-proper, is-sheet, exactly}
+use Rattle.sheet_forms.proofs.Entries.{first, cons, lower, read-back}
+use Rattle.sheet_forms.proofs.Forms.{old-proper, is-sheet, exactly}
 
 allowed-tag : (t l : ℕ) → allows (old .kinds) t l ≡ true → (0x20 ≤ t) × (t ≤ 0x23)
 allowed-tag t l e =

@@ -1,4 +1,2 @@
-pub mod Entries
-pub mod Forms
 pub mod Choices
 pub mod Named

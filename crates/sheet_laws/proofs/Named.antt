@@ -6,10 +6,10 @@ use mathlib.Core.Option.{Option·getD}
 use native.Mathlib.Omega.{arith}
 use Rattle.sheet.specs.Sheet.{Entry, old, sheetOf, entriesIn, among, bodyIn}
 use Rattle.sheet.proofs.Names.{name-is}
-use Rattle.sheet_laws.specs.Forms.{listable}
+use Rattle.sheet_forms.specs.Forms.{listable}
 use Rattle.sheet_laws.specs.Laws.{SheetNamed, SheetNamedBack}
-use Rattle.sheet_laws.proofs.Entries.{few-entries, read-back}
-use Rattle.sheet_laws.proofs.Forms.{old-proper, is-sheet}
+use Rattle.sheet_forms.proofs.Entries.{few-entries, read-back}
+use Rattle.sheet_forms.proofs.Forms.{old-proper, is-sheet}
 
 pub name-of : SheetNamed
 name-of s f tag hs hf = name-is s f tag (rw (hs, hf))

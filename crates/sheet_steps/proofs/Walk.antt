@@ -1,13 +1,13 @@
 -- The loops over the rows: what a turn says of the definitions. Assumes nothing.
-use mathlib.Core.Path.{_≡_, refl, sym, ap, _∙_}
-use mathlib.Core.Bool.{Bool, true, false, cond}
-use mathlib.Core.List.{List, [], _∷_}
-use Prim.Native.Nat.{ℕ, zero, suc, _+_, _*_, _-_, _/_, _%_, _≤_, _<_}
+use mathlib.Core.Path.{_≡_, ap, _∙_}
+use mathlib.Core.Bool.{cond}
+use mathlib.Core.List.{List}
+use Prim.Native.Nat.{ℕ, suc, _+_, _*_, _-_, _/_, _%_, _≤_, _<_}
 use native.Mathlib.Omega.{arith}
 use lib.Dec.{ltb}
 use lib.ListN.{length, getD, set}
 use borrow.Author.Tests.{lt-ltb, le-ltb}
-use Rattle.sheet.specs.Sheet.{tagAt, lengthAt, offsetAt}
+use Rattle.sheet.specs.Sheet.{tagAt, offsetAt}
 use Rattle.sheet_steps.specs.Steps.{countBelow, placeIn, laidRows, laid}
 
 -- ---- counting

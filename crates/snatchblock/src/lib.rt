@@ -1,5 +1,6 @@
 // The pack for programs in C: include/snatchblock.h says what each function answers.
 ghost use mathlib.Core.Path.{_≡_};
+ghost use mathlib.Core.Option.{none, some};
 ghost use Rattle.calls.specs.Calls.{startNumber, startArea, soundIn, sampleNumber, sampleArea, sampleRoom, transactNumber, transactArea, transactRoom};
 ghost use Rattle.capture.specs.Walk.{openedOf, stepAt};
 ghost use Rattle.charger_calls.specs.Calls as chargers;
@@ -7,11 +8,12 @@ ghost use Rattle.key.specs.Key as keys;
 ghost use Rattle.key_writer.specs.Writing as writing;
 ghost use Rattle.names.specs.Names as names;
 ghost use Rattle.start.specs.SetUp.{setUpOf};
-ghost use Rattle.packed.specs.Packed.{checkNumber, comparisonNumber, wroteNumber, openedNumber, readNumber, locatedNumber, stepNumber};
+ghost use Rattle.packed.specs.Packed.{checkNumber, comparisonNumber, wroteNumber, editedNumber, openedNumber, readNumber, locatedNumber, stepNumber};
 ghost use Rattle.pec.specs.Messages.{exchangeCheck, bitComparison};
 ghost use Rattle.pec.specs.Pec.{pecOf};
 ghost use Rattle.sheet.specs.Block.{locatedOf};
 ghost use Rattle.sheet.specs.Sheet.{isSheet};
+ghost use Rattle.sheet_edit.specs.Edit.{editOf, roomAfter};
 ghost use Rattle.sheet_writer.specs.Writing as sheets;
 ghost use Rattle.shelf_table.specs.Table.{tableWrote, tableRoom};
 ghost use Rattle.snatchblock.specs.Given.{sampleWith, setupWith};
@@ -108,6 +110,22 @@ pub extern "C" fn snatchblock_write_sheet(
         body23,
     );
     packed::wrote(w)
+}
+
+#[no_mangle]
+pub extern "C" fn snatchblock_set_body(room: &mut [u8], stated: usize, tag: u8, body: &[u8]) -> u32
+    ensures { λ r. ⌜ r ≡ editedNumber (editOf (now (room .entry)) stated tag (some (now (body .entry)))) ⌝ }
+    ensures { λ _. ⌜ now (room .exit) ≡ roomAfter (now (room .entry)) stated tag (some (now (body .entry))) ⌝ }
+{
+    packed::edited(sheet_edit::set(room, stated, tag, body))
+}
+
+#[no_mangle]
+pub extern "C" fn snatchblock_remove_body(room: &mut [u8], stated: usize, tag: u8) -> u32
+    ensures { λ r. ⌜ r ≡ editedNumber (editOf (now (room .entry)) stated tag none) ⌝ }
+    ensures { λ _. ⌜ now (room .exit) ≡ roomAfter (now (room .entry)) stated tag none ⌝ }
+{
+    packed::edited(sheet_edit::remove(room, stated, tag))
 }
 
 #[no_mangle]

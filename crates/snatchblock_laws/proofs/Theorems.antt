@@ -40,9 +40,10 @@ use Rattle.pec.specs.declared.Compared.{Compared}
 use Rattle.rooms.specs.Rooms.{wrote}
 use Rattle.sheet.specs.Block.{Part, ofService, ofFactory, goodSheets, partOf, locatedBy, locatedOf}
 use Rattle.sheet.specs.declared.Located.{Located}
+use Rattle.sheet_edit.specs.Edit.{editAnswer, editOf}
 use Rattle.sheet_writer.specs.Writing.{writable, sheetWrote}
 use Rattle.shelf_table.specs.Table.{tableAnswer}
-use Rattle.snatchblock_laws.specs.Bare.{Bare, WroteBare, CheckBare, ComparisonBare, KeyBare, NameBare, ReadBare, SheetBare, BlockBare, OpenedBare, StepBare, ShelfBare, SampleBare, TransactBare, ChargerSampleBare, ChargerTransactBare, ChargerCurrentBare}
+use Rattle.snatchblock_laws.specs.Bare.{Bare, WroteBare, CheckBare, ComparisonBare, KeyBare, NameBare, ReadBare, SheetBare, EditBare, BlockBare, OpenedBare, StepBare, ShelfBare, SampleBare, TransactBare, ChargerSampleBare, ChargerTransactBare, ChargerCurrentBare}
 
 -- answer 0 is no refusal
 served-bare : {n : ℕ} → Bare 0 n
@@ -76,6 +77,12 @@ read-bare key = go (readKey key)
 pub sheet-bare : SheetBare
 unfolding sheetWrote
 sheet-bare es room = chosen WroteBare (writable es room) (λ _. served-bare) (λ _ _. omega arith)
+
+pub edit-bare : EditBare
+unfolding editOf
+edit-bare room stated tag to =
+    let n : ℕ = editAnswer room stated tag to in
+    chosen (λ (bytes : ℕ). Bare n (packed n bytes)) (eqb n 0) (λ e. rw (eqb-true n 0 e) served-bare) (λ _ _. omega arith)
 
 pub block-bare : BlockBare
 unfolding locatedOf

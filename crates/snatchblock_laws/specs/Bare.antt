@@ -2,6 +2,7 @@
 -- Assumes nothing: these are definitions.
 use mathlib.Core.Bool.{Bool, false, cond}
 use mathlib.Core.List.{List}
+use mathlib.Core.Option.{Option}
 use mathlib.Core.Path.{_≡_}
 use Prim.Native.Nat.{ℕ}
 use Rattle.area.specs.Area.{isArea, noState}
@@ -14,11 +15,12 @@ use Rattle.names.specs.Names.{nameIn, plainWrote}
 use Rattle.key.specs.Key.{readKey, readOf}
 use Rattle.key_writer.specs.Writing.{keyWrote}
 use Rattle.pack.specs.declared.Sample.{Sample}
-use Rattle.packed.specs.Packed.{checkNumber, comparisonNumber, wroteNumber, openedNumber, readNumber, locatedNumber, stepNumber}
+use Rattle.packed.specs.Packed.{checkNumber, comparisonNumber, wroteNumber, editedNumber, openedNumber, readNumber, locatedNumber, stepNumber}
 use Rattle.pec.specs.Messages.{exchangeCheck, bitComparison}
 use Rattle.rooms.specs.declared.Wrote.{Wrote}
 use Rattle.sheet.specs.Block.{locatedOf}
 use Rattle.sheet.specs.Sheet.{Entry}
+use Rattle.sheet_edit.specs.Edit.{editOf}
 use Rattle.sheet_writer.specs.Writing.{sheetWrote}
 use Rattle.shelf_table.specs.Table.{tableWrote}
 
@@ -48,6 +50,9 @@ ReadBare = (key : List ℕ) → Bare (readOf (readKey key) .answer) (readNumber 
 
 abbrev pub SheetBare : Type 0
 SheetBare = (es : List Entry) (room : List ℕ) → WroteBare (sheetWrote es room)
+
+abbrev pub EditBare : Type 0
+EditBare = (room : List ℕ) (stated tag : ℕ) (to : Option (List ℕ)) → Bare (editOf room stated tag to .answer) (editedNumber (editOf room stated tag to))
 
 abbrev pub BlockBare : Type 0
 BlockBare = (service factory : List ℕ) (tag : ℕ) → Bare (locatedOf service factory tag .answer) (locatedNumber (locatedOf service factory tag))

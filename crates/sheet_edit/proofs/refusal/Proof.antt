@@ -1,8 +1,8 @@
-use mathlib.Core.Path.{_≡_, sym, _∙_}
+use mathlib.Core.Path.{sym, _∙_}
 use borrow.Author.Needs.{needs}
 use borrow.Author.Tests.{not-true, not-false}
 use lib.Seq.{length-take-le}
-use Rattle.sheet_edit.proofs.Whole.{past-room, no-sheet, no-name, long-body, no-refusal}
+use Rattle.sheet_edit.proofs.Answers.{past-room, no-sheet, no-name, long-body, no-refusal}
 use Rattle.sheet_edit.proofs.refusal.Statement.{statement}
 use Rattle.sheet_edit.proofs.refusal.Tie as tie
 

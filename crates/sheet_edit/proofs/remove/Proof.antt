@@ -1,13 +1,13 @@
-use mathlib.Core.Path.{_≡_, sym, ap, _∙_}
+use mathlib.Core.Path.{sym, _∙_}
 use mathlib.Core.Option.{none}
-use Prim.Native.Nat.{_*_, _+_, _-_, _≤_}
+use Prim.Native.Nat.{_-_}
 use native.Mathlib.Omega.{arith}
 use borrow.Author.Needs.{needs}
-use lib.ListN.{length}
 use lib.Seq.{length-take-le}
 use Rattle.rooms.proofs.Rooms.{all-bytes}
 use Rattle.sheet_edit.proofs.Rooms.{Front, front, count-is, some-bytes, rows-in}
-use Rattle.sheet_edit.proofs.Whole.{Spanned, spanned, sizes, removed-size, removed-fits, removed, name-most, Passed, passed, refused, served}
+use Rattle.sheet_edit.proofs.Answers.{name-most, Passed, passed, refused, served}
+use Rattle.sheet_edit.proofs.Whole.{Spanned, spanned, sizes, removed-size, removed-fits, removed}
 use Rattle.sheet_edit.proofs.remove.Statement.{statement}
 use Rattle.sheet_edit.proofs.remove.Tie as tie
 

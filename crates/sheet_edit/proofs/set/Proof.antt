@@ -1,15 +1,15 @@
-use mathlib.Core.Path.{_≡_, sym, ap, _∙_}
+use mathlib.Core.Path.{_≡_, sym, _∙_}
 use mathlib.Core.Option.{some}
-use Prim.Native.Nat.{_*_, _+_, _-_, _≤_}
+use Prim.Native.Nat.{_+_, _-_}
 use native.Mathlib.Omega.{arith}
 use borrow.Author.Needs.{needs}
 use lib.ListN.{length}
 use lib.Seq.{length-take-le}
 use Rattle.rooms.proofs.Rooms.{all-bytes}
-use Rattle.sheet_steps.specs.Steps.{putIn}
 use Rattle.sheet_edit.specs.Edit.{sheetAfter}
 use Rattle.sheet_edit.proofs.Rooms.{Front, front, count-is, some-bytes, rows-in}
-use Rattle.sheet_edit.proofs.Whole.{Spanned, spanned, sizes, second, set-size, set-done, first-small, holds-length, name-most, Passed, passed, refused, too-long, served}
+use Rattle.sheet_edit.proofs.Answers.{name-most, Passed, passed, refused, too-long, served}
+use Rattle.sheet_edit.proofs.Whole.{Spanned, spanned, sizes, second, set-size, set-done, first-small, holds-length}
 use Rattle.sheet_edit.proofs.set.Statement.{statement}
 use Rattle.sheet_edit.proofs.set.Tie as tie
 

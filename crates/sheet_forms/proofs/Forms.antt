@@ -12,9 +12,9 @@ use Rattle.rooms.specs.Rooms.{Bytes, between}
 use Rattle.sheet.specs.Sheet.{Entry, rowsOf, bodiesOf, TagKind, Form, old, sheetOf, tagAt, lengthAt, offsetAt, rowsListed, rowOk, rowsOk, isSheetOf, entriesFrom, entriesIn}
 use Rattle.sheet.proofs.Rows.{RowRight, first-right, reach, contents}
 use Rattle.sheet.proofs.Entries.{sheet-size}
-use Rattle.sheet_laws.specs.Forms.{Proper, listable}
-use Rattle.sheet_laws.specs.Laws.{SheetExactly, SheetOneChoice, SheetAllowed}
-use Rattle.sheet_laws.proofs.Entries.{first, cons, among-allowed, few-entries, row, read-back}
+use Rattle.sheet_forms.specs.Forms.{Proper, listable}
+use Rattle.sheet_forms.specs.Laws.{SheetExactly, SheetOneChoice, SheetAllowed}
+use Rattle.sheet_forms.proofs.Entries.{first, cons, among-allowed, few-entries, row, read-back}
 
 pub old-proper : Proper old
 unfolding old

@@ -12,8 +12,8 @@ use borrow.Author.Tests.{le-leb, leb-true, eqb-true}
 use Rattle.sheet.specs.Sheet.{Entry, rowsOf, bodiesOf, contentsOf, TagKind, Form, sheetOf, allows, tagAt, lengthAt, offsetAt, rowsListed, entriesFrom, among}
 use Rattle.sheet.proofs.Tags.{over, over-one, over-all}
 use Rattle.sheet.proofs.Lengths.{rows-length}
-use Rattle.sheet_laws.specs.Forms.{Proper, listable}
-use Rattle.sheet_laws.specs.Laws.{SheetReadBack}
+use Rattle.sheet_forms.specs.Forms.{Proper, listable}
+use Rattle.sheet_forms.specs.Laws.{SheetReadBack}
 
 -- ---- taken apart and put together
 
