@@ -1,5 +1,5 @@
 # Two commands: `make demo` does the main job, `make test` is the whole gate.
-.PHONY: help demo play keys hut shelf pec firmware test bench install uninstall clean
+.PHONY: help demo play keys hut shelf rename pec firmware test bench install uninstall clean
 
 help:
 	@echo 'make demo              plays captures/class.capture, a recorded visit to the bus'
@@ -7,6 +7,7 @@ help:
 	@echo 'make keys              two packs that a dash makes one, and their two keys'
 	@echo 'make hut               five minutes of a pack in a hut, and what it broadcasts'
 	@echo "make shelf TABLE=file  Monday's figures of a table of packs; with no file, of examples/shelf/monday.txt"
+	@echo 'make rename SHEET=file TAG=20 NAME=name  a name of the sheet in a file set; with no NAME, removed'
 	@echo 'make pec BYTES="16 02" the check byte of a message; with no bytes, the worked examples'
 	@echo 'make firmware          two days of a C firmware over the proved library, and their plot'
 	@echo 'make test              the whole gate: every proof, every must-fail edit, every test'
@@ -45,6 +46,16 @@ test:
 
 firmware:
 	@examples/firmware/run
+
+# A name reaches the program as it is, a $ and all.
+ifneq ($(origin NAME),undefined)
+override NAME := $(value NAME)
+export NAME
+endif
+export SHEET TAG
+
+rename:
+	@examples/rename/run $${SHEET:+"$$SHEET" "$$TAG"} $${NAME+"$$NAME"}
 
 bench:
 	@bench/run

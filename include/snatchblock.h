@@ -6,8 +6,8 @@
  * examples/firmware/pack.c does so and can be copied. A charger's firmware does the same with an area of
  * SNATCHBLOCK_CHARGER_AREA bytes. All else here is for tools: keys, sheets, captures, the shelf.
  *
- * To link: libsnatchblock.a alone (`rt staticlib snatchblock`; x86-64 Linux today). It calls the C library's memcpy and
- * nothing else. It has no heap, no variables and no start: all that it knows lies in what a call lends.
+ * To link: libsnatchblock.a alone (`rt staticlib snatchblock`; x86-64 Linux today). It calls the C library's memcpy
+ * and memset and nothing else. It has no heap, no variables and no start: all that it knows lies in what a call lends.
  *
  * Units: mV; mA, signed, above 0 charges; capacities mAh, in power mode 10 mWh; charge mA·ms; temperatures 0.1 K
  * (0 °C is 2731.5); times on the bus minutes; the counter ms. A date is (year - 1980) * 512 + month * 32 + day.
@@ -471,6 +471,7 @@ uint32_t snatchblock_write_sheet(uint8_t *room, size_t room_length, bool has20, 
  * bodies. length_of is its length, for the next edit to state. Bytes past it within the old sheet become 0; all beyond
  * both stay. Answers 0; 9: the room's front is no sheet of the stated length; 18: the tag isn't 20 to 23; 19: the body
  * is over 32 bytes; 20: the sheet would be longer than the room. A refusal, looked for in that order, writes nothing.
+ * Edit a copy of stored bytes, and store that: an edit that the power cuts short leaves no sheet.
  */
 uint32_t snatchblock_set_body(uint8_t *room, size_t room_length, size_t stated, uint8_t tag, const uint8_t *body,
                               size_t body_length);
