@@ -3,7 +3,7 @@
 use Prim.Native.Nat.{ℕ, zero, suc, _-_}
 use mathlib.Core.List.{List, [], _∷_}
 use native.Mathlib.Omega.{arith}
-use lib.ListN.{take, drop}
+use lib.ListN.{drop}
 use Rattle.bus.specs.Transact.{transactAnswer, transactReply}
 use Rattle.bus_laws.specs.Calls.{Call, visit, Exchanged}
 use Rattle.bus_laws.specs.Promises.{PackReplied, PackPasses, PackAccepted, PackLength, PackApart, PackMisheard}
@@ -11,6 +11,7 @@ use Rattle.commands_laws.proofs.Visits as visits
 use Rattle.commands_laws.specs.Visits.{VisitExchanged}
 use Rattle.gauge_laws.proofs.Range.{word-below}
 use Rattle.pack.specs.declared.State.{State}
+use Rattle.rooms.proofs.Rooms.{first-bytes}
 use Rattle.rooms.specs.Rooms.{Bytes}
 use Rattle.sheet.proofs.Names.{block-short}
 use Rattle.sheet.specs.Block.{Part, ofService, ofFactory, partOf, partBytes, blockOf}
@@ -33,11 +34,6 @@ exchange-length s c command r v = visits.exchange-length (visit s c) command r v
 
 -- ---- what the pack shows are bytes
 
-bytes-take : (n : ℕ) (xs : List ℕ) → Bytes xs → Bytes (take n xs)
-bytes-take zero xs h = tt
-bytes-take (suc n) [] h = tt
-bytes-take (suc n) (x ∷ xs) h = (h .0, bytes-take n xs (h .1))
-
 bytes-drop : (n : ℕ) (xs : List ℕ) → Bytes xs → Bytes (drop n xs)
 bytes-drop zero xs h = h
 bytes-drop (suc n) [] h = tt
@@ -48,8 +44,8 @@ unfolding blockOf
 name-bytes service factory tag hs hf = go (partOf service factory tag)
   where
     go : (p : Part) → Bytes (partBytes p service factory)
-    go (ofService a e) = bytes-take (e - a) (drop a service) (bytes-drop a service hs)
-    go (ofFactory a e) = bytes-take (e - a) (drop a factory) (bytes-drop a factory hf)
+    go (ofService a e) = first-bytes (e - a) (drop a service) (bytes-drop a service hs)
+    go (ofFactory a e) = first-bytes (e - a) (drop a factory) (bytes-drop a factory hf)
 
 exchanged : (s : State) (c : Call) → Exchanged s c → VisitExchanged (visit s c)
 unfolding transactAnswer
