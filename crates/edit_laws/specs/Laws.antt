@@ -16,31 +16,31 @@ use Rattle.edit_laws.specs.Series.{Edit, Held, isServed, next, after, lo
 
 -- ---- one edit
 
--- a room of bytes, and an edit of the sheet at its front that is served: what holds of the room after it, and of the length that is answered
-abbrev pub Served : ((room : List ℕ) (stated tag : ℕ) (to : Option (List ℕ)) (after : List ℕ) (length : ℕ) → Type 0) → Type 0
+-- a room of bytes, and an edit of the sheet at its front that is served: what holds of the room that is left, and of the length that is answered
+abbrev pub Served : ((room : List ℕ) (stated tag : ℕ) (to : Option (List ℕ)) (left : List ℕ) (new : ℕ) → Type 0) → Type 0
 Served P = (room : List ℕ) (stated tag : ℕ) (to : Option (List ℕ)) → Bytes room → editAnswer room stated tag to ≡ 0
     → P room stated tag to (roomAfter room stated tag to) (editOf room stated tag to .length)
 
 -- the front is a sheet, so without gaps, and it lists exactly the edited entries
 abbrev pub EditLists : Type 0
-EditLists = Served (λ room stated tag to after length.
-    (holdsSheet after length ≡ true) × (entriesIn (take length after) ≡ edited tag to (entriesIn (take stated room))))
+EditLists = Served (λ room stated tag to left new.
+    (holdsSheet left new ≡ true) × (entriesIn (take new left) ≡ edited tag to (entriesIn (take stated room))))
 
 -- the edit's tag reads as the body that was set, or as none; every other tag reads as before
 abbrev pub EditReads : Type 0
-EditReads = Served (λ room stated tag to after length.
-    (t : ℕ) → bodyIn (take length after) t ≡ cond (eqb tag t) to (bodyIn (take stated room) t))
+EditReads = Served (λ room stated tag to left new.
+    (t : ℕ) → bodyIn (take new left) t ≡ cond (eqb tag t) to (bodyIn (take stated room) t))
 
 -- the pack's block name of the tag is then the body that was set; where it was removed, the factory sheet's
 abbrev pub EditNamed : Type 0
-EditNamed = Served (λ room stated tag to after length.
-    (factory : List ℕ) → isSheet factory ≡ true → blockOf (take length after) factory tag ≡ Option·getD to (Option·getD (bodyIn factory tag) []))
+EditNamed = Served (λ room stated tag to left new.
+    (factory : List ℕ) → isSheet factory ≡ true → blockOf (take new left) factory tag ≡ Option·getD to (Option·getD (bodyIn factory tag) []))
 
 -- the room keeps its length; within the old sheet zeros follow the new one; beyond both all is as it was
 abbrev pub EditBehind : Type 0
-EditBehind = Served (λ room stated tag to after length.
-    (lib.ListN.length after ≡ lib.ListN.length room) × (take (stated - length) (drop length after) ≡ replicate (stated - length) 0)
-    × (drop (max stated length) after ≡ drop (max stated length) room))
+EditBehind = Served (λ room stated tag to left new.
+    (length left ≡ length room) × (take (stated - new) (drop new left) ≡ replicate (stated - new) 0)
+    × (drop (max stated new) left ≡ drop (max stated new) room))
 
 -- setting what is there changes nothing, nor does removing what isn't
 abbrev pub EditNothing : Type 0
