@@ -88,6 +88,15 @@ static bool sheets_answer(void)
            snatchblock_block_offset(block) == 5 && !snatchblock_block_in_factory(block);
 }
 
+/* A name of 4 bytes more, and then the first removed: of 9 bytes 17, and 9 again. */
+static bool edits_answer(void)
+{
+    uint32_t sheet = snatchblock_write_sheet(room, sizeof room, true, name, 4, false, name, 0, false, name, 0, false, name, 0);
+    uint32_t set = snatchblock_set_body(room, sizeof room, snatchblock_length_of(sheet), 0x21, name, 4);
+    uint32_t removed = snatchblock_remove_body(room, sizeof room, snatchblock_length_of(set), 0x20);
+    return snatchblock_length_of(set) == 17 && snatchblock_length_of(removed) == 9 && room[1] == 0x21;
+}
+
 static bool captures_answer(void)
 {
     const uint8_t capture[6] = {1, 1, 3, 0x16, 0x09, 0x17};
@@ -118,7 +127,7 @@ static bool shelf_answers(void)
 int main(void)
 {
     if (pack_answers() && charger_answers() && messages_answer() && keys_answer() && sheets_answer() &&
-        captures_answer() && shelf_answers())
+        edits_answer() && captures_answer() && shelf_answers())
         return 0;
     printf("header: an answer is wrong\n");
     return 1;
