@@ -187,6 +187,24 @@ static void block_c(void)
     sink = (uint64_t)sb2_sheet_block(of(sheet, sheet_length), of(sheet, sheet_length), 0x23, &block);
 }
 
+/* The first of four bodies of 32 bytes, one of 16 in its place or none. An edit changes its room: each has its own. */
+enum { EDIT_ROOMS = 8 };
+static uint8_t edit_rooms[EDIT_ROOMS][145];
+static size_t edits;
+static uint8_t *edit_room(void) { return edit_rooms[edits++ % EDIT_ROOMS]; }
+static void set_body_p(void) { sink = snatchblock_set_body(edit_room(), 145, sheet_length, 0x20, text, 16); }
+static void set_body_c(void)
+{
+    size_t length;
+    sink = (uint64_t)sb2_sheet_set(edit_room(), 145, sheet_length, 0x20, of(text, 16), &length);
+}
+static void remove_body_p(void) { sink = snatchblock_remove_body(edit_room(), 145, sheet_length, 0x20); }
+static void remove_body_c(void)
+{
+    size_t length;
+    sink = (uint64_t)sb2_sheet_remove(edit_room(), 145, sheet_length, 0x20, &length);
+}
+
 static void open_p(void) { sink = snatchblock_open_capture(capture, capture_length); }
 static void open_c(void)
 {
@@ -351,6 +369,8 @@ static const struct {
     {write_sheet_p, "snatchblock_write_sheet"},
     {is_sheet_p, "snatchblock_is_sheet"},
     {block_p, "snatchblock_block"},
+    {set_body_p, "snatchblock_set_body"},
+    {remove_body_p, "snatchblock_remove_body"},
     {open_p, "snatchblock_open_capture"},
     {step_p, "snatchblock_step_capture"},
     {shelf_p, "snatchblock_shelf_report"},
@@ -470,6 +490,8 @@ static void make_entries(void)
     add("write-sheet", write_sheet_p, write_sheet_c, NULL);
     add("is-sheet", is_sheet_p, is_sheet_c, NULL);
     add("block", block_p, block_c, NULL);
+    add("set-body", set_body_p, set_body_c, NULL);
+    add("remove-body", remove_body_p, remove_body_c, NULL);
     add_sized("exchange", 6, exchange_p, exchange_c);
     add_sized("exchange", 37, exchange_p, exchange_c);
     add_sized("comparison", 6, bits_p, bits_c);
@@ -545,6 +567,9 @@ static void prepare(const struct entry *e)
         write_both(area, &state, 0x04, 0xFFFF); /* AtRate -1 */
     if (e->with_pec)
         area[SNATCHBLOCK_PLAIN] = state.settings.plain = false;
+    for (size_t i = 0; i < EDIT_ROOMS; i++)
+        memcpy(edit_rooms[i], sheet, sheet_length);
+    edits = 0;
     counter = 60000;
     size = e->size;
     if (e->call[0] == walk_p)

@@ -23,7 +23,8 @@
  *
  * Stack, in bytes, the most that was measured of each (`make bench`, x86-64; nothing proves it): transact 4,352;
  * sample 2,336; read_key 1,752; unescape 1,656; sound 784; charger_transact 392; exchange_check 312; pec 280;
- * write_sheet 128; set_up 128; block 104; shelf_report 80; write_key 56; charger_sample 56; all others 16.
+ * set_body 176; write_sheet 128; set_up 128; remove_body 112; block 104; shelf_report 80; write_key 56;
+ * charger_sample 56; all others 16.
  */
 #ifndef SNATCHBLOCK_H
 #define SNATCHBLOCK_H

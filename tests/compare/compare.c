@@ -124,14 +124,19 @@ static void lend_room(size_t length)
     lend_both(&room, length);
 }
 
-/* An area with the given content; `length` bytes of it are lent. */
+/* Memory with the given content; `length` bytes of it are lent. */
+static void lend_with(struct both *b, const uint8_t *content, size_t length)
+{
+    memset(b->second, (int)below(256), sizeof b->second);
+    lend_both(b, length);
+    memcpy(b->s, content, length);
+    memcpy(b->proved, b->second, sizeof b->second);
+    memcpy(b->before, b->second, sizeof b->before);
+}
+
 static void lend_area(const uint8_t *content, size_t length)
 {
-    memset(area.second, (int)below(256), sizeof area.second);
-    lend_both(&area, length);
-    memcpy(area.s, content, length);
-    memcpy(area.proved, area.second, sizeof area.second);
-    memcpy(area.before, area.second, sizeof area.before);
+    lend_with(&area, content, length);
 }
 
 /* ---- the call under way, for a report */
@@ -143,6 +148,7 @@ static struct {
     size_t slices;
     enum area_use area;
     bool with_room;
+    size_t held; /* the front of the room that a served call may clear: the sheet that an edit finds */
     size_t numbers;
     uint64_t number[20];
 } call;
@@ -158,6 +164,7 @@ static void begin(const char *entry, size_t slices, enum area_use area_use, bool
     call.slices = slices;
     call.area = area_use;
     call.with_room = with_room;
+    call.held = 0;
     call.numbers = 0;
     calls++;
 }
@@ -224,11 +231,13 @@ static size_t area_may_change(unsigned answer)
     return call.area == WRITES_AREA && answer > SB2_NOT_FOR_PACK && answer <= SB2_OVERFLOW;
 }
 
-/* Every entry with a room answers in the low byte and has the bytes written above it, none where it refused. */
+/* Every entry with a room answers in the low byte and has the bytes written above it, none where it refused. An edit
+ * may clear what it held before. */
 static size_t room_may_change(uint64_t result)
 {
     unsigned answer = result & 0xFF;
-    return answer == SB2_SERVED || answer == SB2_OVERFLOW ? (size_t)(result >> 8) : 0;
+    size_t length = answer == SB2_SERVED || answer == SB2_OVERFLOW ? (size_t)(result >> 8) : 0;
+    return answer == SB2_SERVED && length < call.held ? call.held : length;
 }
 
 /* Compares all that a call gives and leaves. */
@@ -256,13 +265,23 @@ static void compare(uint64_t proved, uint64_t second)
     exit(1);
 }
 
+/* What the rules ask of both programs, where they agree. */
+static void expect(bool holds, const char *what)
+{
+    if (holds)
+        return;
+    printf("DIFFERENCE: both from the rules: %s of %s\n", what, call.entry);
+    report();
+    exit(1);
+}
+
 /* ---- classes */
 
-enum { ANSWERS = 18 };
+enum { ANSWERS = 21 };
 enum entry {
     SET_UP, SOUND, SAMPLE, TRANSACT, PEC, EXCHANGE, BITS, WRITE_KEY, READ_KEY, UNESCAPE, WRITE_SHEET, IS_SHEET, BLOCK,
-    OPEN, STEP, SHELF, SHELF_FROM, CHARGER_SET_UP, CHARGER_SOUND, CHARGER_SAMPLE, CHARGER_TRANSACT, CHARGER_CURRENT,
-    ENTRIES
+    SET_BODY, REMOVE_BODY, OPEN, STEP, SHELF, SHELF_FROM, CHARGER_SET_UP, CHARGER_SOUND, CHARGER_SAMPLE,
+    CHARGER_TRANSACT, CHARGER_CURRENT, ENTRIES
 };
 static const struct {
     const char *name;
@@ -281,6 +300,8 @@ static const struct {
     [WRITE_SHEET] = {"write_sheet", 1u << 0 | 1u << 12},
     [IS_SHEET] = {"is_sheet (0 false, 1 true)", 3},
     [BLOCK] = {"block", 1u << 0 | 1u << 9},
+    [SET_BODY] = {"set_body", 1u << 0 | 1u << 9 | 1u << 18 | 1u << 19 | 1u << 20},
+    [REMOVE_BODY] = {"remove_body", 1u << 0 | 1u << 9 | 1u << 18},
     [OPEN] = {"open_capture", 1u << 0 | 1u << 14},
     [STEP] = {"step_capture", 1u << 0 | 1u << 14},
     [SHELF] = {"shelf_report", 1u << 0 | 1u << 2 | 1u << 4 | 1u << 16 | 1u << 17},
@@ -326,7 +347,10 @@ enum other {
     C_COUNT = C_COUNT_TO + 4, C_FLAG = C_COUNT + 5, C_LENGTH = C_FLAG + 5 * 4, C_ROOM = C_LENGTH + 5 * 5,
     C_COMMAND = C_ROOM + 2 * 5, C_ADDRESS = C_COMMAND + 2 * 256, C_FORM = C_ADDRESS + 5, C_BOTH = C_FORM + 3,
     C_ALTERED = C_BOTH + 21, C_DELIVERED = C_ALTERED + 4, C_STOPPED = C_DELIVERED + 2 * 4, C_STARTED = C_STOPPED + 2,
-    OTHERS
+    E_SET, E_REMOVED = E_SET + 5 * 4, E_ABSENT = E_REMOVED + 4, E_TAGS, E_BY = E_TAGS + 2 * 16 * 4, E_BODY = E_BY + 73,
+    E_LONG = E_BODY + 33, E_TAG = E_LONG + 3, E_FULL = E_TAG + 2 * 3, E_OVER = E_FULL + 141, E_SERVED = E_OVER + 141,
+    E_REFUSED = E_SERVED + 161, E_STATED = E_REFUSED + 161, E_CUT = E_STATED + 2 * 6, E_BENT = E_CUT + 2,
+    E_ORDER = E_BENT + 2, OTHERS = E_ORDER + 6
 };
 static uint64_t other[OTHERS];
 
@@ -863,21 +887,18 @@ static void play_transact(bool whole)
 
 static uint8_t made_sheet[145];
 
-/* Writes a sheet of random bodies by both programs; gives its length, 0 if refused. */
-static size_t play_write_sheet(bool likely)
+/* Writes a sheet of these bodies by both programs; gives its length, 0 if refused. */
+static size_t play_write_bodies(const struct sb2_body given[4], size_t room_length)
 {
     struct sb2_body bodies[4];
-    uint8_t body[80];
+    size_t length;
+    lend_room(room_length);
     begin("write_sheet (four bodies)", 4, NO_AREA, true);
     for (int i = 0; i < 4; i++) {
-        bodies[i].given = !one_in(3);
-        size_t length = likely || !one_in(12) ? below(33) : 30 + below(40);
-        fill(body, length);
-        bodies[i].bytes = lend(i, body, length);
+        bodies[i].given = given[i].given;
+        bodies[i].bytes = lend(i, given[i].bytes.at, given[i].bytes.length);
         note(bodies[i].given);
     }
-    lend_room(likely ? SB2_SHEET_ROOM : room_size(SB2_SHEET_ROOM));
-    size_t length;
     uint32_t proved = snatchblock_write_sheet(
         room.p, room.length, bodies[0].given, bodies[0].bytes.at, bodies[0].bytes.length, bodies[1].given,
         bodies[1].bytes.at, bodies[1].bytes.length, bodies[2].given, bodies[2].bytes.at, bodies[2].bytes.length,
@@ -887,6 +908,20 @@ static size_t play_write_sheet(bool likely)
     came_up(WRITE_SHEET, (uint32_t)answer);
     memcpy(made_sheet, room.s, length);
     return length;
+}
+
+/* Random bodies. */
+static size_t play_write_sheet(bool likely)
+{
+    struct sb2_body bodies[4];
+    uint8_t body[4][80];
+    for (int i = 0; i < 4; i++) {
+        bodies[i].given = !one_in(3);
+        size_t length = likely || !one_in(12) ? below(33) : 30 + below(40);
+        fill(body[i], length);
+        bodies[i].bytes = bytes_of(body[i], length);
+    }
+    return play_write_bodies(bodies, likely ? SB2_SHEET_ROOM : room_size(SB2_SHEET_ROOM));
 }
 
 /* Moves one byte of one row, or the count of rows, by one. */
@@ -917,6 +952,25 @@ static size_t some_sheet(uint8_t at[145])
     }
 }
 
+/* Looks a tag up in both programs. */
+static uint64_t play_block(struct sb2_bytes service_sheet, struct sb2_bytes factory_sheet, uint8_t tag)
+{
+    struct sb2_bytes s = lend(0, service_sheet.at, service_sheet.length);
+    struct sb2_bytes f = lend(1, factory_sheet.at, factory_sheet.length);
+    struct sb2_block block;
+    begin("block (service, factory)", 2, NO_AREA, false);
+    note(tag);
+    uint64_t proved = snatchblock_block(s.at, s.length, f.at, f.length, tag);
+    int answer = sb2_sheet_block(s, f, tag, &block);
+    /* of a refusal the answer alone */
+    compare(proved, (uint64_t)answer | (uint64_t)block.part.length << 8 | (uint64_t)block.part.offset << 16 |
+                        (uint64_t)(answer == 0 && !block.in_service) << 32);
+    came_up(BLOCK, (uint64_t)answer);
+    if (answer == SB2_SERVED)
+        other[block.in_service ? BLOCK_SERVICE : block.part.offset ? BLOCK_FACTORY : BLOCK_NEITHER]++;
+    return proved;
+}
+
 static void play_sheets(void)
 {
     for (int i = 0; i < 4; i++)
@@ -936,23 +990,326 @@ static void play_sheets(void)
         compare(snatchblock_is_sheet(sheet.at, sheet.length), second);
         came_up(IS_SHEET, second);
     }
-    for (int i = 0; i < 6; i++) {
-        struct sb2_bytes s = lend(0, service, service_length);
-        struct sb2_bytes f = lend(1, factory, factory_length);
-        uint8_t tag = (uint8_t)(i < 4 ? 0x20 + i : (int)below(256));
-        begin("block (service, factory)", 2, NO_AREA, false);
-        note(tag);
-        uint64_t proved = snatchblock_block(s.at, s.length, f.at, f.length, tag);
-        struct sb2_block block;
-        int answer = sb2_sheet_block(s, f, tag, &block);
-        /* of a refusal the answer alone */
-        compare(proved, (uint64_t)answer | (uint64_t)block.part.length << 8 | (uint64_t)block.part.offset << 16 |
-                            (uint64_t)(answer == 0 && !block.in_service) << 32);
-        came_up(BLOCK, (uint64_t)answer);
-        if (answer == SB2_SERVED)
-            other[block.in_service ? BLOCK_SERVICE : block.part.offset ? BLOCK_FACTORY : BLOCK_NEITHER]++;
+    for (int i = 0; i < 6; i++)
+        (void)play_block(bytes_of(service, service_length), bytes_of(factory, factory_length),
+                         (uint8_t)(i < 4 ? 0x20 + i : (int)below(256)));
+}
+
+/* ---- edits of a sheet in its room */
+
+enum { EDIT_ROOMS = 161, FIRST_TAG = 0x20, ROW_BYTES = 4 };
+static uint8_t edited[ROOM_MOST];         /* between edits: the sheet, and behind it what stood there before */
+static size_t edited_room, edited_length; /* the room's bytes, and the sheet's as last answered */
+static uint8_t kept_bytes[4][SB2_NAME_MOST];
+static struct sb2_body kept[4]; /* what the edits should have left */
+
+struct edit {
+    bool set; /* else removed */
+    uint8_t tag;
+    size_t stated;
+    struct sb2_bytes body;
+};
+
+/* The body under a tag, none under those that no sheet lists. */
+static struct sb2_body kept_under(uint8_t tag)
+{
+    const struct sb2_body none = {false, {edited, 0}};
+    return tag < FIRST_TAG || tag > FIRST_TAG + 3 ? none : kept[tag - FIRST_TAG];
+}
+
+/* The sheet's bytes but for a tag's row and body. */
+static size_t length_without(uint8_t tag)
+{
+    struct sb2_body body = kept_under(tag);
+    return body.given ? edited_length - ROW_BYTES - body.bytes.length : edited_length;
+}
+
+static size_t wanted_length(const struct edit *e)
+{
+    return length_without(e->tag) + (e->set ? ROW_BYTES + e->body.length : 0);
+}
+
+/* Which of 9, 18, 19 and 20 hold; the last of a bad call where not even a sheet of that one body has room. */
+static void refusals_of(const struct edit *e, bool holds[4])
+{
+    bool bad_sheet = edited_length == 0 || e->stated != edited_length;
+    bool bad_tag = e->tag < FIRST_TAG || e->tag > FIRST_TAG + 3;
+    bool long_body = e->set && e->body.length > SB2_NAME_MOST;
+    size_t least = 1u + (e->set ? ROW_BYTES + e->body.length : 0);
+    holds[0] = bad_sheet;
+    holds[1] = bad_tag;
+    holds[2] = long_body;
+    holds[3] = (bad_sheet || bad_tag || long_body ? least : wanted_length(e)) > edited_room;
+}
+
+static int wanted_answer(const struct edit *e)
+{
+    static const int answers[4] = {SB2_BAD_SHEET, SB2_BAD_TAG, SB2_LONG_BODY, SB2_LONG_SHEET};
+    bool holds[4];
+    refusals_of(e, holds);
+    for (size_t i = 0; i < 4; i++)
+        if (holds[i])
+            return answers[i];
+    return SB2_SERVED;
+}
+
+/* Gives both the edit in a room of so many bytes. Behind it stands what goes on with the sheet where it is cut. */
+static int edit_in_both(const struct edit *e, size_t room_length, size_t *length)
+{
+    struct sb2_bytes body = lend(0, e->body.at, e->body.length);
+    lend_with(&room, edited, sizeof edited);
+    room.length = room_length;
+    begin(e->set ? "set_body" : "remove_body", e->set, NO_AREA, true);
+    call.held = e->stated;
+    note(e->stated), note(e->tag);
+    uint32_t proved;
+    int answer;
+    if (e->set) {
+        proved = snatchblock_set_body(room.p, room_length, e->stated, e->tag, body.at, body.length);
+        answer = sb2_sheet_set(room.s, room_length, e->stated, e->tag, body, length);
+    } else {
+        proved = snatchblock_remove_body(room.p, room_length, e->stated, e->tag);
+        answer = sb2_sheet_remove(room.s, room_length, e->stated, e->tag, length);
+    }
+    compare(proved, (uint32_t)answer | (uint32_t)*length << 8);
+    came_up(e->set ? SET_BODY : REMOVE_BODY, (uint32_t)answer);
+    return answer;
+}
+
+/* What was refused and why; each two reasons that held at once. */
+static void note_refused_edit(const struct edit *e, int answer)
+{
+    bool holds[4];
+    refusals_of(e, holds);
+    for (size_t i = 0, both = 0; i < 4; i++)
+        for (size_t j = i + 1; j < 4; j++, both++)
+            if (holds[i] && holds[j])
+                other[E_ORDER + both]++;
+    if (edited_room < EDIT_ROOMS)
+        other[E_REFUSED + edited_room]++;
+    if (answer == SB2_BAD_TAG)
+        other[E_TAG + 3u * !e->set + (e->tag == FIRST_TAG - 1 ? 0 : e->tag == FIRST_TAG + 4 ? 1 : 2)]++;
+    if (answer == SB2_LONG_BODY)
+        other[E_LONG + (e->body.length == SB2_NAME_MOST + 1 ? 0 : e->body.length < 256 ? 1 : 2)]++;
+    if (answer == SB2_LONG_SHEET && wanted_length(e) == edited_room + 1)
+        other[E_OVER + edited_room - 4]++;
+}
+
+/* A set body beside the one before: there was none, it is longer, shorter, another as long, the same. */
+static unsigned set_kind(struct sb2_bytes body, struct sb2_body before)
+{
+    if (!before.given)
+        return 0;
+    if (body.length != before.bytes.length)
+        return body.length > before.bytes.length ? 1 : 2;
+    return memcmp(body.at, before.bytes.at, body.length) != 0 ? 3 : 4;
+}
+
+/* What an edit does that is served, before it is kept. */
+static void note_served_edit(const struct edit *e)
+{
+    struct sb2_body before = kept_under(e->tag);
+    unsigned at = e->tag - FIRST_TAG, listed = 0;
+    for (unsigned i = 0; i < 4; i++)
+        listed |= (unsigned)kept[i].given << i;
+    unsigned place = (listed >> at > 1) + 2u * ((listed & ((1u << at) - 1)) > 0); /* alone, first, last, between */
+    other[E_TAGS + 64u * !e->set + 4 * listed + at]++;
+    other[E_BY + 36 + wanted_length(e) - edited_length]++;
+    if (edited_room < EDIT_ROOMS)
+        other[E_SERVED + edited_room]++;
+    if (!e->set) {
+        other[before.given ? E_REMOVED + place : E_ABSENT]++;
+        return;
+    }
+    other[E_SET + 4 * set_kind(e->body, before) + place]++;
+    other[E_BODY + e->body.length]++;
+    if (wanted_length(e) == edited_room)
+        other[E_FULL + edited_room - 5]++;
+}
+
+static void keep_edit(const struct edit *e, size_t length)
+{
+    unsigned at = e->tag - FIRST_TAG;
+    if (e->set)
+        memmove(kept_bytes[at], e->body.at, e->body.length); /* it may be the body that is kept */
+    kept[at].given = e->set;
+    kept[at].bytes = bytes_of(kept_bytes[at], e->set ? e->body.length : 0);
+    memcpy(edited, room.s, sizeof edited);
+    edited_length = length;
+}
+
+/* What a served edit left: 0 where the old sheet was longer, the very bytes of a sheet written afresh, the body. */
+static void check_edit(uint8_t tag, size_t before)
+{
+    static const uint8_t none[1] = {0};
+    struct sb2_body body = kept_under(tag);
+    for (size_t i = edited_length; i < before; i++)
+        expect(edited[i] == 0, "freed bytes");
+    size_t length = play_write_bodies(kept, SB2_SHEET_ROOM);
+    expect(length == edited_length && memcmp(made_sheet, edited, length) == 0, "the edited sheet, beside this one,");
+    uint64_t found = play_block(bytes_of(edited, edited_length), bytes_of(none, 1), tag);
+    expect(snatchblock_block_in_factory(found) == !body.given && snatchblock_block_length(found) == body.bytes.length &&
+               memcmp(edited + snatchblock_block_offset(found), body.bytes.at, body.bytes.length) == 0,
+           "the edited body");
+}
+
+/* An edit in the room; where it is served the next goes on from what it left. */
+static void play_edit(struct edit e)
+{
+    size_t length, before = edited_length;
+    int answer = edit_in_both(&e, edited_room, &length);
+    expect(answer == wanted_answer(&e), "answer");
+    expect(length == (answer == SB2_SERVED ? wanted_length(&e) : 0), "length");
+    if (answer != SB2_SERVED) {
+        note_refused_edit(&e, answer);
+        return;
+    }
+    note_served_edit(&e);
+    keep_edit(&e, length);
+    check_edit(e.tag, before);
+}
+
+/* The edit with another length stated: it is 9. */
+static void play_misstated(struct edit e)
+{
+    const size_t lengths[6] = {0, edited_length - 1, edited_length + 1, edited_room + 1,
+                               (size_t)draw() | (size_t)1 << 63, edited_length + ((size_t)1 << 32)};
+    unsigned which = below(6);
+    e.stated = lengths[which];
+    play_edit(e);
+    other[E_STATED + 6u * !e.set + which]++;
+}
+
+/* The edit in a room that ends before the sheet does: it is 9, though the bytes behind it are the sheet's. */
+static void play_cut_room(struct edit e)
+{
+    size_t length, short_of = one_in(2) ? 1 : 1 + below((uint32_t)edited_length);
+    expect(edit_in_both(&e, edited_length - short_of, &length) == SB2_BAD_SHEET, "answer");
+    other[E_CUT + (short_of > 1)]++;
+}
+
+/* The edit of a sheet with a byte changed; it may still be one, of other bodies. */
+static void play_bent_sheet(struct edit e)
+{
+    uint8_t whole[ROOM_MOST];
+    size_t length;
+    memcpy(whole, edited, sizeof whole);
+    if (one_in(2))
+        bend_sheet(edited);
+    else
+        edited[below(one_in(2) ? 17 : SB2_SHEET_ROOM)] ^= (uint8_t)(1u << below(8));
+    bool good = sb2_sheet_good(bytes_of(edited, edited_length));
+    expect((edit_in_both(&e, edited_room, &length) != SB2_BAD_SHEET) == good, "answer");
+    memcpy(edited, whole, sizeof whole);
+    other[E_BENT + good]++;
+}
+
+/* A body for a tag: about the one there, about what the room takes, or any. */
+static struct sb2_bytes some_body(uint8_t tag)
+{
+    static uint8_t body[SB2_NAME_MOST + 300];
+    struct sb2_body there = kept_under(tag);
+    size_t rest = edited_room - length_without(tag) - ROW_BYTES; /* wraps where a row has no room */
+    size_t length = below(rest < SB2_NAME_MOST && one_in(2) ? (uint32_t)rest + 1 : SB2_NAME_MOST + 1);
+    switch (below(14)) {
+    case 0: length = 0; break;
+    case 1: length = SB2_NAME_MOST; break;
+    case 2: length = SB2_NAME_MOST + 1 + (one_in(2) ? 0 : below(sizeof body - SB2_NAME_MOST)); break;
+    case 3: return there.bytes;
+    case 4: length = there.bytes.length; break;
+    case 5: length = there.bytes.length + 1; break;
+    case 6: length = there.bytes.length - (there.bytes.length > 0); break;
+    case 7: length = rest <= SB2_NAME_MOST ? rest : length; break;
+    case 8: length = rest < SB2_NAME_MOST ? rest + 1 : length; break;
+    default: break;
+    }
+    fill(body, length);
+    return bytes_of(body, length);
+}
+
+static struct edit some_edit(void)
+{
+    struct edit e = {!one_in(3), (uint8_t)(FIRST_TAG + below(4)), edited_length, {edited, 0}};
+    if (one_in(12))
+        e.tag = (uint8_t)(one_in(3) ? draw() : one_in(2) ? FIRST_TAG - 1 : FIRST_TAG + 4);
+    if (e.set)
+        e.body = some_body(e.tag);
+    return e;
+}
+
+static void play_edit_series(uint32_t edits)
+{
+    for (; edits > 0; edits--) {
+        uint32_t way = below(16);
+        if (way == 0)
+            play_misstated(some_edit());
+        else if (way == 1 && edited_length > 0)
+            play_cut_room(some_edit());
+        else if (way == 2)
+            play_bent_sheet(some_edit());
+        else
+            play_edit(some_edit());
     }
 }
+
+/* A room of old bytes with a sheet at its front: the empty one, or one of bodies that have room, written afresh. */
+static void start_sheet(size_t room_length, bool written)
+{
+    fill(edited, sizeof edited);
+    edited[0] = 0;
+    edited_room = room_length;
+    edited_length = room_length > 0;
+    for (size_t i = 0; i < 4; i++) {
+        size_t length = below(SB2_NAME_MOST + 1);
+        kept[i].given = written && !one_in(3) && edited_length + ROW_BYTES + length <= room_length;
+        kept[i].bytes = bytes_of(kept_bytes[i], kept[i].given ? length : 0);
+        fill(kept_bytes[i], kept[i].bytes.length);
+        edited_length += kept[i].given ? ROW_BYTES + length : 0;
+    }
+    if (written) {
+        (void)play_write_bodies(kept, SB2_SHEET_ROOM);
+        memcpy(edited, made_sheet, edited_length);
+    }
+}
+
+/* Bodies under the tags in some order until the sheet has so many bytes, where a sheet can have them. */
+static void play_filling(size_t aim)
+{
+    uint32_t first = below(4), step = one_in(2) ? 1 : 3;
+    uint8_t body[SB2_NAME_MOST];
+    fill(body, sizeof body);
+    for (uint32_t i = 0; i < 4 && edited_length + ROW_BYTES <= aim; i++) {
+        size_t rest = aim - edited_length - ROW_BYTES;
+        size_t length = rest < SB2_NAME_MOST ? rest : SB2_NAME_MOST;
+        if (rest > length && rest - length < ROW_BYTES)
+            length -= ROW_BYTES; /* so that the next one's row has room */
+        play_edit((struct edit){true, (uint8_t)(FIRST_TAG + (first + step * i) % 4), edited_length, {body, length}});
+    }
+}
+
+/* Every room to 160 bytes: at its last byte, one beyond it, and series from there; one from a written sheet. */
+static void play_edit_rooms(void)
+{
+    for (size_t size = 0; size < EDIT_ROOMS; size++) {
+        start_sheet(size, false);
+        play_filling(size + 1);
+        play_edit_series(16);
+        start_sheet(size, false);
+        play_filling(size);
+        play_edit_series(16);
+        start_sheet(size, true);
+        play_edit_series(16);
+    }
+}
+
+static void play_edits(void)
+{
+    for (int i = 0; i < 4; i++) {
+        start_sheet(one_in(2) ? below(EDIT_ROOMS) : 60 + below(ROOM_MOST - 59), one_in(2));
+        play_edit_series(10 + below(30));
+    }
+}
+
 
 /* ---- the pack's life */
 
@@ -2773,7 +3130,8 @@ static void play_charger(void)
 
 static void play(void)
 {
-    switch (below(17)) {
+    switch (below(18)) {
+    case 17: play_edits(); break;
     case 16: play_charger(); break;
     case 15: play_cut_off(); break;
     case 14: play_choices(); break;
@@ -2996,6 +3354,26 @@ static bool tally(void)
         {"writes right; 1, 2, 3 bits altered: not taken", C_ALTERED, C_ALTERED + 3},
         {"broadcast 14, 15, 16, 10 16 delivered, plain too", C_DELIVERED, C_DELIVERED + 7},
         {"the pack's alarm stops it, its words do, start it", C_STOPPED, C_STARTED},
+        {"bodies added: alone, first, last, between", E_SET, E_SET + 3},
+        {"a longer one in its place: the same", E_SET + 4, E_SET + 7},
+        {"a shorter one", E_SET + 8, E_SET + 11},
+        {"another as long", E_SET + 12, E_SET + 15},
+        {"the same body again", E_SET + 16, E_SET + 19},
+        {"bodies removed: alone, first, last, between", E_REMOVED, E_REMOVED + 3},
+        {"a tag removed that isn't there", E_ABSENT, E_ABSENT},
+        {"each set of tags, each tag set, and removed", E_TAGS, E_TAGS + 2 * 16 * 4 - 1},
+        {"sheets that grow by -36 to 36 bytes", E_BY, E_BY + 72},
+        {"bodies set of 0 to 32 bytes", E_BODY, E_BODY + 32},
+        {"19: of 33, to 255, from 256", E_LONG, E_LONG + 2},
+        {"18: 1F, 24, others, set and removed", E_TAG, E_TAG + 5},
+        {"rooms of 5 to 145 bytes filled to the last", E_FULL, E_FULL + 140},
+        {"20: one byte too long, rooms of 4 to 144", E_OVER, E_OVER + 140},
+        {"edits served in rooms of 1 to 160 bytes", E_SERVED + 1, E_SERVED + 160},
+        {"refused in rooms of 0 to 160", E_REFUSED, E_REFUSED + 160},
+        {"9: stated 0, 1 less, 1 more, past room, 2^32 more", E_STATED, E_STATED + 11},
+        {"9: the room ends before the sheet, by 1, by more", E_CUT, E_CUT + 1},
+        {"sheets bent: 9, and still a sheet", E_BENT, E_BENT + 1},
+        {"each two of 9, 18, 19 and 20 at once", E_ORDER, E_ORDER + 5},
     };
     for (size_t i = 0; i < sizeof lines / sizeof *lines; i++)
         all = count_other(lines[i].name, lines[i].first, lines[i].last) && all;
@@ -3028,6 +3406,7 @@ int main(int count, char **given)
     signal(SIGILL, stopped);
     signal(SIGFPE, stopped);
     service_length = factory_length = 1;
+    play_edit_rooms();
     for (;;)
         play();
 }
