@@ -18,9 +18,9 @@ use Rattle.sheet_forms.proofs.Entries.{among-allowed}
 use Rattle.sheet_forms.proofs.Forms.{old-proper, is-sheet}
 use Rattle.sheet_laws.proofs.Named.{name-of}
 use Rattle.sheet_edit.specs.Edit.{edited, holdsSheet, sheetAfter, isName, sizeOf, editAnswer, editOf, roomWith, roomAfter}
-use Rattle.sheet_edit.proofs.Answers.{Passed, Done, done, is-done, may-stand, now, sheet-is, now-may, now-most}
+use Rattle.sheet_edit.proofs.Answers.{Passed, Done, done, is-done, may-stand, now, now-may, now-most}
 use Rattle.sheet_edit.proofs.After.{Allowed, edited-may}
-use Rattle.sheet_edit.proofs.Rooms.{Front, front, room-is, room-split}
+use Rattle.sheet_edit.proofs.Rooms.{Front, front, room-is, room-split, sheet-is}
 use Rattle.sheet_edit.proofs.Whole.{removed-fits}
 use Rattle.edit_laws.specs.Laws.{EditLists, EditReads, EditNamed, EditBehind, EditNothing, EditTwenty, EditRoomEnough, RemoveServed}
 use Rattle.edit_laws.proofs.Entries.{among-edited, same-entries}

@@ -10,20 +10,20 @@ use lib.Seq.{sets, slice, slice-empty, take-suc, length-take-le, set-comm, getD-
 use Rattle.rooms.proofs.Rooms.{then}
 
 -- a store below the stores
-pub set-before : (l : List ℕ) (i : ℕ) (vs : List ℕ) (j v : ℕ) → j < i → set (sets l i vs) j v ≡ sets (set l j v) i vs
+set-before : (l : List ℕ) (i : ℕ) (vs : List ℕ) (j v : ℕ) → j < i → set (sets l i vs) j v ≡ sets (set l j v) i vs
 set-before l i [] j v h = refl
 set-before l i (w ∷ vs) j v h =
     let ne : i ≡ j → ⊥ = λ e. omega arith in
     set-before (set l i w) (suc i) vs j v (omega arith) ∙ ap (λ (k : List ℕ). sets k (suc i) vs) (set-comm l i j w v ne)
 
 -- what lies below or above the stores stays
-pub getD-below : (l : List ℕ) (i : ℕ) (vs : List ℕ) (j : ℕ) → j < i → getD (sets l i vs) j 0 ≡ getD l j 0
+getD-below : (l : List ℕ) (i : ℕ) (vs : List ℕ) (j : ℕ) → j < i → getD (sets l i vs) j 0 ≡ getD l j 0
 getD-below l i [] j h = refl
 getD-below l i (w ∷ vs) j h =
     let ne : j ≡ i → ⊥ = λ e. omega arith in
     getD-below (set l i w) (suc i) vs j (omega arith) ∙ getD-set-other l i j w 0 ne
 
-pub getD-above : (l : List ℕ) (i : ℕ) (vs : List ℕ) (j : ℕ) → i + length vs ≤ j → getD (sets l i vs) j 0 ≡ getD l j 0
+getD-above : (l : List ℕ) (i : ℕ) (vs : List ℕ) (j : ℕ) → i + length vs ≤ j → getD (sets l i vs) j 0 ≡ getD l j 0
 getD-above l i [] j h = refl
 getD-above l i (w ∷ vs) j h =
     let ne : j ≡ i → ⊥ = λ e. omega arith in

@@ -1,4 +1,4 @@
--- Bytes cut out of the first `end` bytes of an room, and bytes put in. Definitions: assumes nothing.
+-- Bytes cut out of the first `end` bytes of a room, and bytes put in. Definitions: assumes nothing.
 use mathlib.Core.List.{List, _++_}
 use Prim.Native.Nat.{ℕ, _+_}
 use lib.ListN.{replicate}

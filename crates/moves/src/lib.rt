@@ -1,4 +1,4 @@
-// Moves of bytes within one lent room. Each contract is one `sets` term over the room as it was.
+// Moves of bytes within one lent room, each the room as it was with one `sets`. Only our own crates call these.
 ghost use mathlib.Core.Path.{_≡_};
 ghost use Prim.Native.Nat.{_+_, _-_, _≤_};
 ghost use lib.ListN.{length, replicate};
@@ -41,7 +41,7 @@ pub fn fill_zero(room: &mut [u8], from: usize, to: usize)
     }
 }
 
-// Of the first `end` bytes, `by` go at `at`: those after them close up, and zeros take the room that is freed.
+// Of the first `end` bytes, `by` go at `at`: those after them close up, and zeros take the place that is freed.
 pub fn cut(room: &mut [u8], end: usize, at: usize, by: usize)
     requires { ⌜ (at + by ≤ end) × (end ≤ length (now room)) ⌝ }
     ensures { λ _. ⌜ now (room .exit) ≡ cutOut (now (room .entry)) end at by ⌝ }

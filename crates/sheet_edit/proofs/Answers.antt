@@ -19,7 +19,7 @@ use Rattle.sheet_edit.specs.declared.Edited.{Edited}
 use Rattle.sheet_edit.specs.Edit.{edited, holdsSheet, sheetAfter, isName, sizeOf, editAnswer, editOf, roomWith, roomAfter}
 use Rattle.sheet_edit.specs.Tests.{refusalOf}
 use Rattle.sheet_edit.proofs.After.{Allowed, edited-may}
-use Rattle.sheet_edit.proofs.Rooms.{Front, front}
+use Rattle.sheet_edit.proofs.Rooms.{Front, front, sheet-is}
 
 -- a name's tag leaves room above it
 pub name-most : (tag : ℕ) → isName tag ≡ true → tag ≤ 0x23
@@ -91,14 +91,17 @@ module _ (room : List ℕ) (stated tag : ℕ) where
     unfolding refusalOf editAnswer
     refused a e ne = by-answer a (e ∙ one-failed (holdsSheet room stated) (isName tag) (leb (sizeOf to) 32) _ (λ z. ne (e ∙ z))) ne
 
-    pub too-long : Passed → length room < length (sheetAfter room stated tag to) → Owed (record { answer = 20; length = 0 }) room
+    pub too-long : Passed → (l : ℕ) → l ≡ length (sheetAfter room stated tag to) → length room < l → Owed (record { answer = 20; length = 0 }) room
     unfolding editAnswer
-    too-long P h = by-answer 20 (rw (P .holds, P .name, le-leb _ _ (P .short), lt-leb _ _ h)) (λ z. omega arith)
+    too-long P l e h = by-answer 20 (rw (P .holds, P .name, le-leb _ _ (P .short), ← e, lt-leb _ _ h)) (λ z. omega arith)
 
-    pub served : Passed → length (sheetAfter room stated tag to) ≤ length room → (a l : ℕ) (s : List ℕ) → a ≡ 0 → l ≡ length (sheetAfter room stated tag to)
+    pub served : Passed → (a l : ℕ) (s : List ℕ) → a ≡ 0 → l ≡ length (sheetAfter room stated tag to) → l ≤ length room
         → s ≡ roomWith (sheetAfter room stated tag to) stated room → Owed (record { answer = a; length = l }) s
     unfolding editOf roomAfter editAnswer
-    served P h a l s z e q = let m = le-leb _ _ h in let k = le-leb _ _ (P .short) in (rw (P .holds, P .name, k, m, z, e), rw (P .holds, P .name, k, m) q)
+    served P a l s z e h q =
+        let m : leb (length (sheetAfter room stated tag to)) (length room) ≡ true = rw (← e) (le-leb _ _ h) in
+        let k = le-leb _ _ (P .short) in
+        (rw (P .holds, P .name, k, m, z, e), rw (P .holds, P .name, k, m) q)
 
     -- ---- a served edit
 
@@ -130,14 +133,11 @@ module _ {room : List ℕ} {stated : ℕ} (F : Front room stated) (tag : ℕ) (t
   abbrev pub now : List Entry
   now = edited tag to (F .entries)
 
-  pub sheet-is : sheetAfter room stated tag to ≡ sheetOf old now
-  sheet-is = ap (λ (x : List Entry). sheetOf old (edited tag to x)) (F .listed)
-
   pub now-may : Allowed (old .kinds) tag to → listable (old .kinds) 0 now ≡ true
   now-may a = edited-may (old .kinds) 0 tag to (F .entries) (F .may) (omega arith) a
 
   pub now-most : Passed room stated tag to → length (sheetAfter room stated tag to) ≤ 145
-  now-most P = omega (arith, ap length sheet-is, at-most-145 (sheetOf old now) (is-sheet old old-proper now (now-may (may-stand tag to (P .name) (P .short)))))
+  now-most P = omega (arith, ap length (sheet-is F tag to), at-most-145 (sheetOf old now) (is-sheet old old-proper now (now-may (may-stand tag to (P .name) (P .short)))))
 
 -- no edit answers a length over 145
 pub edit-most : (room : List ℕ) (stated tag : ℕ) (to : Option (List ℕ)) → Bytes room → {e : Edited} → e ≡ editOf room stated tag to → e .length ≤ 145

@@ -2,6 +2,7 @@
 use mathlib.Core.Path.{_≡_, sym, ap, _∙_}
 use mathlib.Core.Bool.{true, and-eq-true-iff}
 use mathlib.Core.List.{List, _++_}
+use mathlib.Core.Option.{Option}
 use Prim.Native.Nat.{ℕ, zero, suc, _+_, _*_, _-_, max, _≤_, _<_}
 use native.Mathlib.Omega.{arith}
 use lib.Dec.{leb}
@@ -15,7 +16,7 @@ use Rattle.sheet.proofs.Entries.{sheet-size}
 use Rattle.sheet_forms.specs.Forms.{listable}
 use Rattle.sheet_forms.proofs.Entries.{few-entries, read-back}
 use Rattle.sheet_forms.proofs.Forms.{old-proper, exactly}
-use Rattle.sheet_edit.specs.Edit.{holdsSheet, roomWith}
+use Rattle.sheet_edit.specs.Edit.{edited, holdsSheet, sheetAfter, roomWith}
 
 -- ---- zeros, and what stood there
 
@@ -88,3 +89,7 @@ module _ {room : List ℕ} {stated : ℕ} (F : Front room stated) where
 
   pub rows-in : 1 + 4 * length (F .entries) ≤ length (take stated room)
   rows-in = omega (arith, ap length (F .front-is), sheet-size old (F .entries))
+
+  -- the sheet after an edit, of the front's entries
+  pub sheet-is : (tag : ℕ) (to : Option (List ℕ)) → sheetAfter room stated tag to ≡ sheetOf old (edited tag to (F .entries))
+  sheet-is tag to = ap (λ (x : List Entry). sheetOf old (edited tag to x)) (F .listed)

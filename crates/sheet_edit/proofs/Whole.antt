@@ -1,4 +1,4 @@
--- The edits as wholes: what the steps leave is the room of the definition, and each answer is its own. Assumes nothing.
+-- The edits as wholes: what the steps leave is the room of the definition. Assumes nothing.
 use mathlib.Core.Path.{_≡_, sym, ap, _∙_}
 use mathlib.Core.List.{List, _∷_, _++_, append-assoc}
 use mathlib.Core.Option.{none, some}
@@ -13,7 +13,7 @@ use Rattle.sheet_steps.specs.declared.Span.{Span}
 use Rattle.sheet_steps.specs.Steps.{countBelow, placeIn, spanIn, takenOut, putIn}
 use Rattle.sheet_edit.specs.Edit.{below, above, edited, sheetAfter, roomWith}
 use Rattle.sheet_edit.proofs.Entries.{same, Parts, parts, count-is}
-use Rattle.sheet_edit.proofs.Rooms.{drop-zeros, room-split, Front, room-is}
+use Rattle.sheet_edit.proofs.Rooms.{drop-zeros, room-split, Front, room-is, sheet-is}
 use Rattle.sheet_edit.proofs.Shapes.{place-is, taken-out, put-in}
 
 -- ---- the span of a tag
@@ -61,7 +61,7 @@ module _ {room : List ℕ} {stated : ℕ} (F : Front room stated) (tag : ℕ) wh
 
   removed-sheet : sheetAfter room stated tag none ≡ sheetOf old (B ++ A)
   unfolding edited
-  removed-sheet = ap (λ (x : List Entry). sheetOf old (edited tag none x)) (F .listed)
+  removed-sheet = sheet-is F tag none
 
   pub removed-fits : length (sheetAfter room stated tag none) ≤ length room
   removed-fits = omega (arith, ap length removed-sheet, kept-size, F .reach)
@@ -190,6 +190,11 @@ module _ {room : List ℕ} {stated : ℕ} (F : Front room stated) (tag : ℕ) wh
         end : 1 + 4 * n + length (bodiesOf B) + length (bodiesOf M) ≡ 1 + 4 * length (B ++ (M ++ A)) + length (bodiesOf B) + length (bodiesOf M)
         end = ap (λ (x : List Entry). 1 + 4 * length x + length (bodiesOf B) + length (bodiesOf M)) (sym (three .whole))
 
+    -- what the second step asks of the first byte
+    pub first-small : getD (takenOut room stated k p) 0 0 < 255
+    unfolding sheetOf old
+    first-small = rw taken (omega (arith, sizes .fewer, sizes .few))
+
     -- ---- removed
 
     pub removed-size : left ≡ length (sheetAfter room stated tag none)
@@ -211,7 +216,7 @@ module _ {room : List ℕ} {stated : ℕ} (F : Front room stated) (tag : ℕ) wh
 
       set-sheet : sheetAfter room stated tag (some body) ≡ sheetOf old now
       unfolding edited
-      set-sheet = ap (λ (x : List Entry). sheetOf old (edited tag (some body) x)) (F .listed)
+      set-sheet = sheet-is F tag (some body)
 
       now-kept : length (sheetOf old now) ≡ length (sheetOf old (B ++ A)) + (length body + 4)
       now-kept =
@@ -244,11 +249,6 @@ module _ {room : List ℕ} {stated : ℕ} (F : Front room stated) (tag : ℕ) wh
           ∙ put-in old B A (replicate gap 0 ++ w) tag body left (p .row) (p .from - 4 * rows) (sizes .left-is) (S .row) (sizes .freed) (fits h)
           ∙ sym room-set
 
-      -- and of the first byte
-      pub first-small : getD (takenOut room stated k p) 0 0 < 255
-      unfolding sheetOf old
-      first-small = rw taken (omega (arith, sizes .fewer, sizes .few))
-
 -- the new length is a number that the code can hold
-pub holds-length : {left room size : ℕ} → left ≤ room → room < 2 ^ 63 → size < 2 ^ 62 → left + size + 4 < 2 ^ 64
-holds-length h r s = omega arith
+pub holds-length : {left room size row : ℕ} → left ≤ room → room < 2 ^ 63 → size < 2 ^ 62 → row ≤ 4 → left + size + row < 2 ^ 64
+holds-length h r s k = omega arith

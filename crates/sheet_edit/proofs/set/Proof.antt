@@ -58,7 +58,7 @@ add-length c = let z = sizes _ _ (span (c .before .before .before)) in omega (ar
 add-length-2 : tie.Need-add-length-2
 add-length-2 c =
     let most = rw (← c .before .rows-size .ensures) at (sizes _ _ (span (c .before .before .before)) .left-most) in
-    record { fits = holds-length most (omega (arith, c .before .before .before .before .before .before .before .before .before .before .before .before .good)) (omega (arith, passes (c .before .before .before .before .before .before .before) .short)) }
+    record { fits = holds-length most (omega (arith, c .before .before .before .before .before .before .before .before .before .before .before .before .good)) (omega (arith, passes (c .before .before .before .before .before .before .before) .short)) (omega arith) }
 
 -- the length that is answered
 new-length : (c : tie.After-struct-known2) → c .before .before .before .before .before .before .before .before .before .before .before .before .args .stated - (c .before .before .before .span-of .result .to - c .before .before .before .span-of .result .from) - c .before .rows-size .result + length (c .before .before .before .before .before .before .before .before .before .before .before .before .args .body .now) + 4
@@ -66,7 +66,7 @@ new-length : (c : tie.After-struct-known2) → c .before .before .before .before
 new-length c = rw (c .before .rows-size .ensures) (set-size _ _ (span (c .before .before .before)) _)
 
 returns-2 : tie.Need-returns-2
-returns-2 c = too-long _ _ _ _ (passes (c .before .before .before .before .before .before .before .before)) (rw (new-length (c .before)) at (c .if2 .taken))
+returns-2 c = too-long _ _ _ _ (passes (c .before .before .before .before .before .before .before .before)) _ (new-length (c .before)) (c .if2 .taken)
 
 take-out-requires : tie.Need-take-out-requires
 take-out-requires c κs =
@@ -84,7 +84,7 @@ put-in-requires c κs =
     let S = span (c .before .before .before .before .before .before .before .before .before .before) in
     let z = second _ _ S _ (c .before .before .before .before .before .before .before .before .rows-size .ensures) in
     let same : length (c .before .before .before .before .take-out .last .0) ≡ length (c .before .before .before .before .before .before .before .before .before .before .before .before .before .before .before .before .before .before .before .args .room .now) = c .before .before .before .before .take-out .kept .0 in
-    let small = rw (← c .before .before .before .before .take-out .ensures) at (first-small _ _ S (c .before .before .before .before .before .before .before .before .before .before .before .before .before .before .before .before .before .before .before .args .body .now)) in
+    let small = rw (← c .before .before .before .before .take-out .ensures) at (first-small _ _ S) in
     ((z .start, z .within, rw same (c .before .before .before .before .before .before .if2 .left), passes (c .before .before .before .before .before .before .before .before .before .before .before .before .before .before) .short), (z .row-in, z .few, small))
 
 same-length-3 : tie.Need-same-length-3
@@ -96,7 +96,7 @@ returns-3 c =
     let S = span (c .before .before .before .before .before .before .before .before .before .before .before .before .before) in
     let l = new-length (c .before .before .before .before .before .before .before .before .before .before) in
     let f = c .before .before .before .before .before .before .before .before .before .before .before .rows-size .ensures in
-    served _ _ _ _ (passes (c .before .before .before .before .before .before .before .before .before .before .before .before .before .before .before .before .before)) (rw l at (c .before .before .before .before .before .before .before .before .before .if2 .left)) _ _ _ (c .before .before .before .before .before .before .before .before .before .before .before .before .before .before .before .before .before .if1 .left) l
+    served _ _ _ _ (passes (c .before .before .before .before .before .before .before .before .before .before .before .before .before .before .before .before .before)) _ _ _ (c .before .before .before .before .before .before .before .before .before .before .before .before .before .before .before .before .before .if1 .left) l (c .before .before .before .before .before .before .before .before .before .if2 .left)
     (c .before .before .put-in .ensures ∙ rw (c .before .before .before .before .before .before .before .take-out .ensures, f) (set-done _ _ S (a .body .now) (rw f at (c .before .before .before .before .before .before .before .before .before .if2 .left))))
 
 pub set-spec : {M : Type 1} → statement M
