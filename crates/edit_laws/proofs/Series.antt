@@ -1,16 +1,16 @@
 -- The theorems on several edits: a series leaves the sheet of the final bodies, as the writer gives it. Assumes nothing.
 use mathlib.Core.Path.{_≡_, refl, sym, ap, subst, _∙_}
-use mathlib.Core.Bool.{Bool, true, false, cond, and-true, and-false}
+use mathlib.Core.Bool.{Bool, true, false, cond, and-true, and-false, and-eq-true-iff}
 use mathlib.Core.List.{List, [], _∷_}
 use mathlib.Core.Option.{Option, none, some}
 use Prim.Native.Nat.{ℕ, _-_, max, _≤_}
 use native.Mathlib.Omega.{arith}
-use lib.Dec.{eqb}
+use lib.Dec.{eqb, leb}
 use lib.ListN.{length, drop}
 use lib.Seq.{take-append-seam}
-use borrow.Author.Tests.{eqb-true, le-leb}
+use borrow.Author.Tests.{eq-eqb, eqb-true, le-leb, leb-true}
 use Rattle.rooms.specs.Rooms.{Bytes, wrote}
-use Rattle.sheet.specs.Sheet.{Entry, old, sheetOf, entriesIn, among, bodyIn}
+use Rattle.sheet.specs.Sheet.{Entry, old, sheetOf, isSheet, entriesIn, among, bodyIn}
 use Rattle.sheet_writer.specs.Writing.{entryIf, choice, short, writable, sheetWrote, sheetRoom}
 use Rattle.sheet_writer.proofs.Laid.{choice-few}
 use Rattle.sheet_forms.specs.Forms.{listable}
@@ -18,14 +18,14 @@ use Rattle.sheet_laws.specs.Written.{givenTo}
 use Rattle.sheet_laws.proofs.Choices.{chosen, body-back}
 use Rattle.sheet_forms.proofs.Entries.{few-entries}
 use Rattle.sheet_forms.proofs.Forms.{old-proper, one-choice}
-use Rattle.sheet_edit.specs.Edit.{edited, holdsSheet, sheetAfter, roomWith, roomAfter}
-use Rattle.sheet_edit.proofs.Answers.{done, may-stand}
+use Rattle.sheet_edit.specs.Edit.{edited, holdsSheet, sheetAfter, isName, sizeOf, editAnswer, roomWith, roomAfter}
+use Rattle.sheet_edit.proofs.Answers.{Passed, done, is-done, may-stand, now-most}
 use Rattle.sheet_edit.proofs.After.{edited-may}
-use Rattle.sheet_edit.proofs.Rooms.{front, room-is, room-split}
-use Rattle.edit_laws.specs.Series.{Edit, Held, isServed, next, after, longest, Bodies, withEdit, finally, isThere, bytesOf, choiceOf, sheetIn, endBodies}
-use Rattle.edit_laws.specs.Laws.{SeriesLeaves, SeriesAfresh, EditsCommute}
+use Rattle.sheet_edit.proofs.Rooms.{Front, front, room-is, room-split, sheet-is}
+use Rattle.edit_laws.specs.Series.{Edit, Held, isServed, isFit, next, after, AllServed, AllFit, longest, Bodies, withEdit, finally, isThere, bytesOf, choiceOf, sheetIn, endBodies}
+use Rattle.edit_laws.specs.Laws.{SeriesLeaves, SeriesAfresh, SeriesServed, EditsCommute}
 use Rattle.edit_laws.proofs.Entries.{either, among-edited}
-use Rattle.edit_laws.proofs.Rooms.{compose, up-to, front-of, listed}
+use Rattle.edit_laws.proofs.Rooms.{compose, up-to, front-of, with-length, listed, in-front}
 
 -- ---- entries that may be listed are the writer's choice of what they have
 
@@ -70,18 +70,36 @@ record Holds (h : Held) (had : Bodies) (top : ℕ) (room₀ : List ℕ) : Type 0
   pub reach : h .stated ≤ top
   pub room-is : h .room ≡ roomWith (sheetOf old entries) top room₀
 
-module _ (e : Edit) (h : Held) (had : Bodies) (top : ℕ) (room₀ : List ℕ) (H : Holds h had top room₀) where
+-- its front, as an edit finds it
+module _ (h : Held) (had : Bodies) (top : ℕ) (room₀ : List ℕ) (H : Holds h had top room₀) where
   abbrev S : List ℕ
   S = sheetOf old (H .entries)
 
-  abbrev now : List Entry
-  now = edited (e .tag) (e .to) (H .entries)
+  holds : holdsSheet (h .room) (h .stated) ≡ true
+  holds = rw (H .room-is, H .stated-is) (in-front (H .entries) (H .may) room₀ top)
 
   front-is : sheetIn h ≡ S
   front-is = rw (H .room-is, H .stated-is) (front-of S room₀ top)
 
-  sheet-is : sheetAfter (h .room) (h .stated) (e .tag) (e .to) ≡ sheetOf old now
-  sheet-is = ap (λ (x : List Entry). sheetOf old (edited (e .tag) (e .to) x)) (ap entriesIn front-is ∙ listed (H .entries) (H .may))
+  as-front : Front (h .room) (h .stated)
+  unfolding old holdsSheet
+  as-front = record {
+    entries = H .entries;
+    may = H .may;
+    listed = ap entriesIn front-is ∙ listed (H .entries) (H .may);
+    front-is = front-is;
+    size = H .stated-is;
+    reach = leb-true _ _ (and-eq-true-iff (leb (h .stated) (length (h .room))) (isSheet (sheetIn h)) .0 holds .0);
+    few = few-entries (old .kinds) (H .entries) (H .may);
+  }
+
+module _ (e : Edit) (h : Held) (had : Bodies) (top : ℕ) (room₀ : List ℕ) (H : Holds h had top room₀) where
+  abbrev now : List Entry
+  now = edited (e .tag) (e .to) (H .entries)
+
+  new-sheet : sheetAfter (h .room) (h .stated) (e .tag) (e .to) ≡ sheetOf old now
+  unfolding as-front
+  new-sheet = sheet-is (as-front h had top room₀ H) (e .tag) (e .to)
 
   refused : isServed e h ≡ false → next e h .room ≡ h .room
   unfolding roomAfter
@@ -94,10 +112,10 @@ module _ (e : Edit) (h : Held) (had : Bodies) (top : ℕ) (room₀ : List ℕ) (
   step-by true q =
       let D = done (h .room) (h .stated) (e .tag) (e .to) (eqb-true _ 0 q) in
       let t : List ℕ = sheetOf old now in
-      let size : next e h .stated ≡ length t = rw q (D .length-is ∙ ap length sheet-is) in
-      let z : max top (length S) ≡ top = omega (arith, H .reach, H .stated-is) in
-      let over : roomWith (sheetAfter (h .room) (h .stated) (e .tag) (e .to)) (h .stated) (h .room) ≡ roomWith t (max top (length S)) room₀ =
-      ap (λ (x : List ℕ). roomWith x (h .stated) (h .room)) sheet-is ∙ ap (λ (k : ℕ). roomWith t k (h .room)) (H .stated-is) ∙ ap (λ (x : List ℕ). roomWith t (length S) x) (H .room-is) ∙ compose S t room₀ top in
+      let size : next e h .stated ≡ length t = rw q (D .length-is ∙ ap length new-sheet) in
+      let z : max top (length (S h had top room₀ H)) ≡ top = omega (arith, H .reach, H .stated-is) in
+      let over : roomWith (sheetAfter (h .room) (h .stated) (e .tag) (e .to)) (h .stated) (h .room) ≡ roomWith t (max top (length (S h had top room₀ H))) room₀ =
+      ap (λ (x : List ℕ). roomWith x (h .stated) (h .room)) new-sheet ∙ ap (λ (k : ℕ). roomWith t k (h .room)) (H .stated-is) ∙ ap (λ (x : List ℕ). roomWith t (length (S h had top room₀ H)) x) (H .room-is) ∙ compose (S h had top room₀ H) t room₀ top in
       record {
         entries = now;
         may = edited-may (old .kinds) 0 (e .tag) (e .to) (H .entries) (H .may) (omega arith) (may-stand (e .tag) (e .to) (D .tests .name) (D .tests .short));
@@ -109,7 +127,7 @@ module _ (e : Edit) (h : Held) (had : Bodies) (top : ℕ) (room₀ : List ℕ) (
   step-by false q =
       let same : next e h .stated ≡ h .stated = rw q in
       let z : max top (next e h .stated) ≡ top = omega (arith, H .reach) in
-      record { entries = H .entries; may = H .may; has = H .has; stated-is = same ∙ H .stated-is; reach = omega arith; room-is = refused q ∙ H .room-is ∙ ap (λ (k : ℕ). roomWith S k room₀) (sym z) }
+      record { entries = H .entries; may = H .may; has = H .has; stated-is = same ∙ H .stated-is; reach = omega arith; room-is = refused q ∙ H .room-is ∙ ap (λ (k : ℕ). roomWith (S h had top room₀ H) k room₀) (sym z) }
 
   step : Next (isServed e h)
   step = step-by (isServed e h) refl
@@ -178,6 +196,30 @@ afresh es h fresh bytes ok room =
     rw (end-small es h bytes ok, le-leb _ _ room)
     (ap (λ (n : ℕ). wrote 0 n) (sym (end-stated es h bytes ok)), rw (end-front es h bytes ok, end-stated es h bytes ok) (take-append-seam w (drop (length w) fresh)))
 
+-- ---- a room that is long enough
+
+module _ (e : Edit) (h : Held) (had : Bodies) (top : ℕ) (room₀ : List ℕ) (H : Holds h had top room₀) (fit : isFit e ≡ true) (l : 145 ≤ length (h .room)) where
+  answered : editAnswer (h .room) (h .stated) (e .tag) (e .to) ≡ 0
+  answered =
+      let t = and-eq-true-iff (isName (e .tag)) (leb (sizeOf (e .to)) 32) .0 fit in
+      let P : Passed (h .room) (h .stated) (e .tag) (e .to) = record { holds = holds h had top room₀ H; name = t .0; short = leb-true _ _ (t .1) } in
+      is-done (h .room) (h .stated) (e .tag) (e .to) P (omega (arith, now-most (as-front h had top room₀ H) (e .tag) (e .to) P))
+
+  kept-length : length (next e h .room) ≡ length (h .room)
+  kept-length =
+      let D = done (h .room) (h .stated) (e .tag) (e .to) answered in
+      ap length (D .room-is) ∙ with-length (sheetAfter (h .room) (h .stated) (e .tag) (e .to)) (h .room) (h .stated) (as-front h had top room₀ H .reach) (D .fits)
+
+on-served : (es : List Edit) (h : Held) (had : Bodies) (top : ℕ) (room₀ : List ℕ) → Holds h had top room₀ → 145 ≤ length (h .room) → AllFit es → AllServed es h
+on-served [] h had top room₀ H l f = tt
+on-served (e ∷ es) h had top room₀ H l f = (
+  eq-eqb _ 0 (answered e h had top room₀ H (f .0) l),
+  on-served es (next e h) (cond (isServed e h) (withEdit e had) had) (max top (next e h .stated)) room₀ (step e h had top room₀ H) (omega (arith, kept-length e h had top room₀ H (f .0) l)) (f .1),
+)
+
+pub always-served : SeriesServed
+always-served es h bytes ok l f = on-served es h (bodyIn (sheetIn h)) (h .stated) (h .room) (begin h bytes ok) l f
+
 -- ---- two edits
 
 both : (d e : Edit) (h : Held) → isServed d h ≡ true → isServed e (next d h) ≡ true → (tag : ℕ) → endBodies (d ∷ e ∷ []) h tag ≡ withEdit e (withEdit d (bodyIn (sheetIn h))) tag
@@ -187,8 +229,8 @@ either-order : (d e : Edit) (had : Bodies) → (d .tag ≡ e .tag → ⊥) → (
 either-order d e had differ tag = either (eqb (e .tag) tag) (eqb (d .tag) tag) (e .to) (d .to) (had tag) (λ x y. differ (eqb-true (d .tag) tag y ∙ sym (eqb-true (e .tag) tag x)))
 
 pub commute : EditsCommute
-commute d e h bytes ok differ p q r s =
-    let same : sheetOf old (choiceOf (endBodies (d ∷ e ∷ []) h)) ≡ sheetOf old (choiceOf (endBodies (e ∷ d ∷ []) h)) = ap (sheetOf old) (choice-by _ _ (λ tag. both d e h p q tag ∙ either-order d e (bodyIn (sheetIn h)) differ tag ∙ sym (both e d h r s tag))) in (
+commute d e h bytes ok differ p q =
+    let same : sheetOf old (choiceOf (endBodies (d ∷ e ∷ []) h)) ≡ sheetOf old (choiceOf (endBodies (e ∷ d ∷ []) h)) = ap (sheetOf old) (choice-by _ _ (λ tag. both d e h (p .0) (p .1 .0) tag ∙ either-order d e (bodyIn (sheetIn h)) differ tag ∙ sym (both e d h (q .0) (q .1 .0) tag))) in (
       end-stated (d ∷ e ∷ []) h bytes ok ∙ ap length same ∙ sym (end-stated (e ∷ d ∷ []) h bytes ok),
       end-front (d ∷ e ∷ []) h bytes ok ∙ same ∙ sym (end-front (e ∷ d ∷ []) h bytes ok),
     )

@@ -12,7 +12,7 @@ use Rattle.sheet.specs.Sheet.{old, sheetOf, isSheet, entriesIn, bodyIn}
 use Rattle.sheet.specs.Block.{blockOf}
 use Rattle.sheet_writer.specs.Writing.{sheetWrote, sheetRoom}
 use Rattle.sheet_edit.specs.Edit.{edited, holdsSheet, sheetAfter, isName, sizeOf, editAnswer, editOf, roomWith, roomAfter}
-use Rattle.edit_laws.specs.Series.{Edit, Held, isServed, next, after, longest, choiceOf, sheetIn, endBodies}
+use Rattle.edit_laws.specs.Series.{Edit, Held, AllFit, AllServed, after, longest, choiceOf, sheetIn, endBodies}
 
 -- ---- one edit
 
@@ -76,8 +76,12 @@ SeriesAfresh = (es : List Edit) (h : Held) (fresh : List ℕ) → Bytes (h .room
     → (sheetWrote (choiceOf (endBodies es h)) fresh ≡ wrote 0 (after es h .stated))
     × (take (after es h .stated) (sheetRoom (choiceOf (endBodies es h)) fresh) ≡ sheetIn (after es h))
 
+-- in a room of 145 bytes a series of edits whose tags and bodies pass the tests is served throughout
+abbrev pub SeriesServed : Type 0
+SeriesServed = (es : List Edit) (h : Held) → Bytes (h .room) → holdsSheet (h .room) (h .stated) ≡ true → 145 ≤ length (h .room) → AllFit es → AllServed es h
+
 -- two edits on different tags give the same sheet in either order, where both orders are served
 abbrev pub EditsCommute : Type 0
 EditsCommute = (d e : Edit) (h : Held) → Bytes (h .room) → holdsSheet (h .room) (h .stated) ≡ true → (d .tag ≡ e .tag → ⊥)
-    → isServed d h ≡ true → isServed e (next d h) ≡ true → isServed e h ≡ true → isServed d (next e h) ≡ true
+    → AllServed (d ∷ e ∷ []) h → AllServed (e ∷ d ∷ []) h
     → (after (d ∷ e ∷ []) h .stated ≡ after (e ∷ d ∷ []) h .stated) × (sheetIn (after (d ∷ e ∷ []) h) ≡ sheetIn (after (e ∷ d ∷ []) h))

@@ -1,13 +1,14 @@
 -- A series of edits: the rooms that it leads through, and what each tag has in the end. Definitions: assumes nothing.
-use mathlib.Core.Bool.{Bool, true, false, cond}
+use mathlib.Core.Path.{_≡_}
+use mathlib.Core.Bool.{Bool, true, false, cond, _&&_}
 use mathlib.Core.List.{List, [], _∷_}
 use mathlib.Core.Option.{Option, none, some}
 use Prim.Native.Nat.{ℕ, max}
-use lib.Dec.{eqb}
+use lib.Dec.{eqb, leb}
 use lib.ListN.{take}
 use Rattle.sheet.specs.Sheet.{Entry, bodyIn}
 use Rattle.sheet_writer.specs.Writing.{choice}
-use Rattle.sheet_edit.specs.Edit.{editAnswer, editOf, roomAfter}
+use Rattle.sheet_edit.specs.Edit.{isName, sizeOf, editAnswer, editOf, roomAfter}
 
 -- an edit: a tag gets a body (set) or none (remove)
 pub record Edit : Type 0 where
@@ -22,6 +23,10 @@ pub record Held : Type 0 where
 abbrev pub isServed : Edit → Held → Bool
 isServed e h = eqb (editAnswer (h .room) (h .stated) (e .tag) (e .to)) 0
 
+-- an edit's tag and body pass the tests
+abbrev pub isFit : Edit → Bool
+isFit e = isName (e .tag) && leb (sizeOf (e .to)) 32
+
 -- after an edit the length is the one that it answers; after a refused one it is what it was
 abbrev pub next : Edit → Held → Held
 next e h = record {
@@ -33,6 +38,16 @@ next e h = record {
 abbrev pub after : List Edit → Held → Held
 after [] h = h
 after (e ∷ es) h = after es (next e h)
+
+-- each of its edits is served
+abbrev pub AllServed : List Edit → Held → Type 0
+AllServed [] h = Unit {0}
+AllServed (e ∷ es) h = (isServed e h ≡ true) × AllServed es (next e h)
+
+-- each of its edits passes the tests
+abbrev pub AllFit : List Edit → Type 0
+AllFit [] = Unit {0}
+AllFit (e ∷ es) = (isFit e ≡ true) × AllFit es
 
 -- the longest sheet on the way, the first and the last with it
 abbrev pub longest : List Edit → Held → ℕ
