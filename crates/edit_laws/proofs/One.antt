@@ -1,7 +1,7 @@
 -- The theorems on one edit. Assumes nothing.
 use mathlib.Core.Path.{_≡_, refl, sym, ap, _∙_}
 use mathlib.Core.Logic.{_↔_}
-use mathlib.Core.Bool.{Bool, true, false, cond}
+use mathlib.Core.Bool.{Bool, true, false, cond, and-eq-true-iff}
 use mathlib.Core.List.{List, [], _++_, append-assoc}
 use mathlib.Core.Option.{Option, none, some, Option·getD}
 use Prim.Native.Nat.{ℕ, _+_, _-_, max, _≤_, _<_}
@@ -12,7 +12,7 @@ use lib.Seq.{drop-append-seam, take-at, drop-at}
 use borrow.Author.Tests.{eq-eqb, eqb-true, leb-true, leb-false, le-leb}
 use Rattle.rooms.specs.Rooms.{Bytes}
 use Rattle.sheet.specs.Sheet.{Entry, old, sheetOf, isSheet, entriesIn, among, bodyIn}
-use Rattle.sheet.proofs.Tags.{allowed-short}
+use Rattle.sheet.proofs.Tags.{allows-is, allowed-short}
 use Rattle.sheet_forms.specs.Forms.{listable}
 use Rattle.sheet_forms.proofs.Entries.{among-allowed}
 use Rattle.sheet_forms.proofs.Forms.{old-proper, is-sheet}
@@ -20,11 +20,11 @@ use Rattle.sheet_laws.proofs.Named.{name-of}
 use Rattle.sheet_edit.specs.Edit.{edited, holdsSheet, sheetAfter, isName, sizeOf, editAnswer, editOf, roomWith, roomAfter}
 use Rattle.sheet_edit.proofs.Answers.{Passed, Done, done, is-done, may-stand, now, now-may, now-most}
 use Rattle.sheet_edit.proofs.After.{Allowed, edited-may}
-use Rattle.sheet_edit.proofs.Rooms.{Front, front, room-is, room-split, sheet-is}
+use Rattle.sheet_edit.proofs.Rooms.{Front, front, sheet-is}
 use Rattle.sheet_edit.proofs.Whole.{removed-fits}
-use Rattle.edit_laws.specs.Laws.{EditLists, EditReads, EditNamed, EditBehind, EditNothing, EditTwenty, EditRoomEnough, RemoveServed}
+use Rattle.edit_laws.specs.Laws.{EditLists, EditReads, EditNamed, EditBehind, Nothing, SetNothing, RemoveNothing, EditTwenty, EditRoomEnough, RemoveServed}
 use Rattle.edit_laws.proofs.Entries.{among-edited, same-entries}
-use Rattle.edit_laws.proofs.Rooms.{front-of, with-length, listed, in-front}
+use Rattle.edit_laws.proofs.Rooms.{own-room, front-of, with-length, listed, in-front}
 
 -- ---- a served edit
 
@@ -116,23 +116,29 @@ module _ {room : List ℕ} {stated : ℕ} (F : Front room stated) (tag : ℕ) (n
       by-test t true q = sym h ∙ ap (λ (k : ℕ). among k L) (eqb-true tag t q)
       by-test t false q = refl
 
-  pub unchanged : holdsSheet room stated ≡ true → (to : Option (List ℕ)) → among tag L ≡ to → (editOf room stated tag to ≡ record { answer = 0; length = stated }) × (roomAfter room stated tag to ≡ room)
+  unchanged : holdsSheet room stated ≡ true → (to : Option (List ℕ)) → among tag L ≡ to → Nothing room stated tag to
   unfolding editOf
   unchanged ok to h =
       let t : List ℕ = sheetAfter room stated tag to in
       let old-one : t ≡ sheetOf old L = sheet-is F tag to ∙ ap (sheetOf old) (as-before to h) in
       let size : length t ≡ stated = ap length old-one ∙ sym (F .size) in
       let e : editAnswer room stated tag to ≡ 0 = is-done room stated tag to (record { holds = ok; name = name; short = short-there to (allowed-there to h) }) (omega (arith, F .reach)) in
-      let z : stated - length t ≡ 0 = omega arith in
-      let y : length t - stated ≡ 0 = omega arith in
-      let r : roomWith t stated room ≡ room =
-      ap (λ (x : List ℕ). roomWith t stated x) (room-is F) ∙ room-split t (sheetOf old L) (drop stated room) stated (F .size) ∙ rw (z, y, old-one) (sym (room-is F)) in
-      (rw (e, size), done room stated tag to e .room-is ∙ r)
+      (rw (e, size), done room stated tag to e .room-is ∙ ap (λ (x : List ℕ). roomWith x stated room) old-one ∙ own-room F)
 
-pub nothing : EditNothing
-nothing room stated tag bytes ok name =
+-- a tag that is listed is a name's
+name-there : (tag : ℕ) (body : List ℕ) (L : List Entry) → listable (old .kinds) 0 L ≡ true → among tag L ≡ some body → isName tag ≡ true
+name-there tag body L g h = and-eq-true-iff (isName tag) (leb (length body) 32) .0 (sym (allows-is tag (length body)) ∙ among-allowed (old .kinds) 0 tag body L g h) .0
+
+pub set-nothing : SetNothing
+set-nothing room stated tag body bytes ok h =
     let F = front room stated ok bytes in
-    unchanged F tag name ok (bodyIn (take stated room) tag) (ap (λ (x : List Entry). among tag x) (sym (F .listed)))
+    let there : among tag (F .entries) ≡ some body = ap (λ (x : List Entry). among tag x) (sym (F .listed)) ∙ h in
+    unchanged F tag (name-there tag body (F .entries) (F .may) there) ok (some body) there
+
+pub remove-nothing : RemoveNothing
+remove-nothing room stated tag bytes ok name h =
+    let F = front room stated ok bytes in
+    unchanged F tag name ok none (ap (λ (x : List Entry). among tag x) (sym (F .listed)) ∙ h)
 
 -- ---- 20
 

@@ -13,7 +13,7 @@ use Rattle.sheet_forms.specs.Forms.{listable}
 use Rattle.sheet_forms.proofs.Entries.{few-entries, read-back}
 use Rattle.sheet_forms.proofs.Forms.{old-proper, is-sheet}
 use Rattle.sheet_edit.specs.Edit.{holdsSheet, roomWith}
-use Rattle.sheet_edit.proofs.Rooms.{drop-zeros, room-split}
+use Rattle.sheet_edit.proofs.Rooms.{drop-zeros, room-split, Front, room-is}
 
 -- ---- rooms over rooms
 
@@ -42,6 +42,14 @@ up-to s room top =
     let z : max top (length s) - length s ≡ top - length s = omega arith in
     let y : max (max top (length s)) (length s) ≡ max top (length s) = omega arith in
     rw (z, y)
+
+-- a room is the one with the sheet that it holds
+pub own-room : {room : List ℕ} {stated : ℕ} (F : Front room stated) → roomWith (sheetOf old (F .entries)) stated room ≡ room
+own-room {room} {stated} F =
+    let s : List ℕ = sheetOf old (F .entries) in
+    let z : stated - length s ≡ 0 = omega (arith, F .size) in
+    let y : length s - stated ≡ 0 = omega (arith, F .size) in
+    ap (λ (x : List ℕ). roomWith s stated x) (room-is F) ∙ room-split s s (drop stated room) stated (F .size) ∙ rw (z, y) (sym (room-is F))
 
 pub front-of : (s room : List ℕ) (top : ℕ) → take (length s) (roomWith s top room) ≡ s
 unfolding roomWith

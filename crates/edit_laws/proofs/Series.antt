@@ -21,11 +21,11 @@ use Rattle.sheet_forms.proofs.Forms.{old-proper, one-choice}
 use Rattle.sheet_edit.specs.Edit.{edited, holdsSheet, sheetAfter, isName, sizeOf, editAnswer, roomWith, roomAfter}
 use Rattle.sheet_edit.proofs.Answers.{Passed, done, is-done, may-stand, now-most}
 use Rattle.sheet_edit.proofs.After.{edited-may}
-use Rattle.sheet_edit.proofs.Rooms.{Front, front, room-is, room-split, sheet-is}
+use Rattle.sheet_edit.proofs.Rooms.{Front, front, sheet-is}
 use Rattle.edit_laws.specs.Series.{Edit, Held, isServed, isFit, next, after, AllServed, AllFit, longest, Bodies, withEdit, finally, isThere, bytesOf, choiceOf, sheetIn, endBodies}
 use Rattle.edit_laws.specs.Laws.{SeriesLeaves, SeriesAfresh, SeriesServed, EditsCommute}
 use Rattle.edit_laws.proofs.Entries.{either, among-edited}
-use Rattle.edit_laws.proofs.Rooms.{compose, up-to, front-of, with-length, listed, in-front}
+use Rattle.edit_laws.proofs.Rooms.{compose, up-to, own-room, front-of, with-length, listed, in-front}
 
 -- ---- entries that may be listed are the writer's choice of what they have
 
@@ -149,16 +149,13 @@ series (e ∷ es) h had top room₀ H =
 begin : (h : Held) → Bytes (h .room) → holdsSheet (h .room) (h .stated) ≡ true → Holds h (bodyIn (sheetIn h)) (h .stated) (h .room)
 begin h bytes ok =
     let F = front (h .room) (h .stated) ok bytes in
-    let s : List ℕ = sheetOf old (F .entries) in
-    let z : h .stated - length s ≡ 0 = omega (arith, F .size) in
-    let y : length s - h .stated ≡ 0 = omega (arith, F .size) in
     record {
       entries = F .entries;
       may = F .may;
       has = λ tag. ap (λ (x : List Entry). among tag x) (sym (F .listed));
       stated-is = F .size;
       reach = omega arith;
-      room-is = sym (ap (λ (x : List ℕ). roomWith s (h .stated) x) (room-is F) ∙ room-split s s (drop (h .stated) (h .room)) (h .stated) (F .size) ∙ rw (z, y) (sym (room-is F)));
+      room-is = sym (own-room F);
     }
 
 module _ (es : List Edit) (h : Held) (bytes : Bytes (h .room)) (ok : holdsSheet (h .room) (h .stated) ≡ true) where

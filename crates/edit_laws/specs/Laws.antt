@@ -3,7 +3,7 @@ use mathlib.Core.Path.{_≡_}
 use mathlib.Core.Logic.{_↔_}
 use mathlib.Core.Bool.{true, cond}
 use mathlib.Core.List.{List, [], _∷_}
-use mathlib.Core.Option.{Option, none, Option·getD}
+use mathlib.Core.Option.{Option, none, some, Option·getD}
 use Prim.Native.Nat.{ℕ, _-_, max, _≤_, _<_}
 use lib.Dec.{eqb}
 use lib.ListN.{length, take, drop, replicate}
@@ -42,11 +42,19 @@ EditBehind = Served (λ room stated tag to left new.
     (length left ≡ length room) × (take (stated - new) (drop new left) ≡ replicate (stated - new) 0)
     × (drop (max stated new) left ≡ drop (max stated new) room))
 
--- setting what is there changes nothing, nor does removing what isn't
-abbrev pub EditNothing : Type 0
-EditNothing = (room : List ℕ) (stated tag : ℕ) → Bytes room → holdsSheet room stated ≡ true → isName tag ≡ true
-    → (editOf room stated tag (bodyIn (take stated room) tag) ≡ record { answer = 0; length = stated })
-    × (roomAfter room stated tag (bodyIn (take stated room) tag) ≡ room)
+-- an edit that leaves room and length as they are
+abbrev pub Nothing : List ℕ → ℕ → ℕ → Option (List ℕ) → Type 0
+Nothing room stated tag to = (editOf room stated tag to ≡ record { answer = 0; length = stated }) × (roomAfter room stated tag to ≡ room)
+
+-- setting what is there changes nothing
+abbrev pub SetNothing : Type 0
+SetNothing = (room : List ℕ) (stated tag : ℕ) (body : List ℕ) → Bytes room → holdsSheet room stated ≡ true → bodyIn (take stated room) tag ≡ some body
+    → Nothing room stated tag (some body)
+
+-- nor does removing a name that isn't there
+abbrev pub RemoveNothing : Type 0
+RemoveNothing = (room : List ℕ) (stated tag : ℕ) → Bytes room → holdsSheet room stated ≡ true → isName tag ≡ true → bodyIn (take stated room) tag ≡ none
+    → Nothing room stated tag none
 
 -- 20 comes exactly when the new sheet is longer than the room
 abbrev pub EditTwenty : Type 0

@@ -20,6 +20,7 @@ pub record Held : Type 0 where
   pub room : List ℕ
   pub stated : ℕ
 
+-- the edit is answered 0
 abbrev pub isServed : Edit → Held → Bool
 isServed e h = eqb (editAnswer (h .room) (h .stated) (e .tag) (e .to)) 0
 
@@ -58,6 +59,7 @@ longest (e ∷ es) h = max (h .stated) (longest es (next e h))
 abbrev pub Bodies : Type 0
 Bodies = ℕ → Option (List ℕ)
 
+-- the edit's tag has what the edit gives it, every other one what it had
 abbrev pub withEdit : Edit → Bodies → Bodies
 withEdit e had tag = cond (eqb (e .tag) tag) (e .to) (had tag)
 
@@ -68,10 +70,12 @@ finally (e ∷ es) h had = finally es (next e h) (cond (isServed e h) (withEdit 
 
 -- ---- the same bodies for the writer
 
+-- there is a body
 abbrev pub isThere : Option (List ℕ) → Bool
 isThere none = false
 isThere (some body) = true
 
+-- its bytes; of none no bytes, which the writer ignores
 abbrev pub bytesOf : Option (List ℕ) → List ℕ
 bytesOf none = []
 bytesOf (some body) = body
