@@ -421,6 +421,99 @@ uint32_t snatchblock_charger_current(const uint8_t *area, size_t area_length);
 
 static inline uint16_t snatchblock_charger_current_of(uint32_t result) { return (uint16_t)(result >> 8 & 0xFFFFu); }
 
+/* ---- the thirteen-cell pack */
+
+/*
+ * The pack of a tractor-drawn sprayer: thirteen cells, at the pack's address, with commands and status bits of its own.
+ * Its area has SNATCHBLOCK_THIRTEEN_AREA bytes; of other bytes every call here answers 1.
+ *
+ *   at   bytes
+ *     0      1  error code, which no command shows
+ *     1  3 x 2  DesignCapacity, DesignVoltage, StateOfHealth
+ *     7     10  the latest sample, as LATEST has it in the pack's area
+ *    17 13 x 2  the cells, mV
+ *    43      8  charge, mA·ms
+ *    51      2  full, mAh
+ *    53      1  flag: FULLY_DISCHARGED
+ *    54    247  the recent minute, as RECENT has it in the pack's area
+ *
+ * It broadcasts nothing, and no host can write to it: no alarms, no modes, no cycles, and full stays what set-up brought.
+ */
+#define SNATCHBLOCK_THIRTEEN_AREA 301
+#define SNATCHBLOCK_THIRTEEN_CELLS 13
+
+/* What set-up brings beside the first sample and the cells; capacities in mAh. */
+struct snatchblock_thirteen_setup {
+    uint16_t DesignCapacity;
+    uint16_t full;
+    uint16_t remaining;
+    uint16_t DesignVoltage; /* mV */
+    uint16_t StateOfHealth; /* percent, shown as it is */
+};
+
+/*
+ * Set-up, with the first sample and the cells' voltages. Answers 0; 1: the area isn't SNATCHBLOCK_THIRTEEN_AREA bytes;
+ * 11. A refusal leaves the area as it was.
+ */
+uint32_t snatchblock_thirteen_set_up(uint8_t *area, size_t area_length, uint16_t DesignCapacity, uint16_t full,
+                                     uint16_t remaining, uint16_t DesignVoltage, uint16_t StateOfHealth,
+                                     uint16_t voltage, int16_t current, uint16_t temperature, uint32_t counter,
+                                     const uint16_t cells[SNATCHBLOCK_THIRTEEN_CELLS]);
+
+static inline uint32_t snatchblock_thirteen_set_up_from(uint8_t *area, size_t area_length,
+                                                        const struct snatchblock_thirteen_setup *setup,
+                                                        const struct snatchblock_reading *first,
+                                                        const uint16_t cells[SNATCHBLOCK_THIRTEEN_CELLS])
+{
+    return snatchblock_thirteen_set_up(area, area_length, setup->DesignCapacity, setup->full, setup->remaining,
+                                       setup->DesignVoltage, setup->StateOfHealth, first->voltage, first->current,
+                                       first->temperature, first->counter, cells);
+}
+
+/* Whether bytes are such an area and its state is sound. */
+bool snatchblock_thirteen_sound(const uint8_t *area, size_t area_length);
+
+/*
+ * A sample, each second, with the cells' voltages. Elapsed, charge and the minute go on as the pack's do. Answers 0; 1,
+ * and the area stays as it was.
+ */
+uint32_t snatchblock_thirteen_sample(uint8_t *area, size_t area_length, uint16_t voltage, int16_t current,
+                                     uint16_t temperature, uint32_t counter,
+                                     const uint16_t cells[SNATCHBLOCK_THIRTEEN_CELLS]);
+
+static inline uint32_t snatchblock_thirteen_sample_from(uint8_t *area, size_t area_length,
+                                                        const struct snatchblock_reading *reading,
+                                                        const uint16_t cells[SNATCHBLOCK_THIRTEEN_CELLS])
+{
+    return snatchblock_thirteen_sample(area, area_length, reading->voltage, reading->current, reading->temperature,
+                                       reading->counter, cells);
+}
+
+/*
+ * What the driver heard at address 16, and its mark, as with snatchblock_transact; but a write must carry its PEC. A host
+ * reads
+ *
+ *   08 Temperature             0.1 K
+ *   09 Voltage                 10 mV, rounded down
+ *   0A Current                 10 mA, signed, cut toward zero
+ *   0D RelativeStateOfCharge   percent
+ *   11 RunTimeToEmpty          minutes, as the pack's
+ *   13 AverageTimeToFull       minutes, as the pack's
+ *   16 BatteryStatus           bit 4 FULLY_DISCHARGED, as the pack's; 5 FULLY_CHARGED: 1 to 99 mA above 51,000 mV;
+ *                              6 DISCHARGING: current below 0; 7 INITIALIZED; 8 UNDER_VOLTAGE: up to 39,000 mV;
+ *                              9 OVER_VOLTAGE: from 54,800 mV; 10 CHARGE_OVER_CURRENT: from 2,000 mA;
+ *                              11 DISCHARGE_OVER_CURRENT: from 15,000 mA; 12 UNDER_TEMPERATURE: up to 0 C;
+ *                              13 OVER_TEMPERATURE: from 50 C charging, from 60 C discharging; the others are 0
+ *   31 to 3D                   cells 1 to 13, mV
+ *   4F StateOfHealth           percent
+ *   F1                         26 bytes with no count: cells 1 to 13, mV, each low byte first
+ *
+ * Answers 0; 1; 2: a room under 34 bytes; 3; 4, for a write without PEC too; 5; 6; 7: 00, 80, 81, A0 to A2; 8: a right
+ * write to what is read above; 10, to a read of 11 or 13. 1 to 3 store nothing, all others the area's first byte.
+ */
+uint32_t snatchblock_thirteen_transact(uint8_t *area, size_t area_length, bool read, const uint8_t *bytes,
+                                       size_t bytes_length, uint8_t *room, size_t room_length);
+
 /* ---- messages */
 
 /* The PEC of bytes: CRC-8, x^8 + x^2 + x + 1, start 0, high bit first. A message's is over its address bytes too. */

@@ -18,17 +18,14 @@ use Rattle.capture.specs.Walk.{openedOf, seenBad}
 use Rattle.capture_writer.specs.Writer.{captureWrote, captureAnswer, captureGiven, givenFit, roomAsked}
 use Rattle.capture_laws.proofs.Walked.{step-answer}
 use Rattle.charger.specs.Charger as charger
-use Rattle.charger.specs.Commands.{isShown, isTaken, chargerKind}
 use Rattle.charger.specs.Transact as charger-bus
-use Rattle.charger.specs.declared.Charger.{Charger}
 use Rattle.charger.specs.declared.Sampled as charger-sampled
 use Rattle.charger_area.specs.Area as charger-area
 use Rattle.charger_area.specs.declared.Loaded as charger-loaded
-use Rattle.rooms.proofs.Choice.{chosen}
 use Rattle.rooms.specs.Rooms.{wrote}
 use Rattle.clock.specs.Broadcast.{sampleOf}
-use Rattle.commands.specs.Answers.{Side, sideAnswer, requestAnswer, readAnswer, writeAnswer}
-use Rattle.commands.specs.Commands.{kindOf}
+use Rattle.commands.specs.Answers.{Side, sideAnswer, bare, requestAnswer, readAnswer, writeAnswer}
+use Rattle.commands.specs.Commands.{isReserved, isOptional, isBlock}
 use Rattle.commands.specs.declared.Kind.{Kind}
 use Rattle.commands.specs.declared.Kind.the-variants.{ReadWrite, ReadOnly, WriteOnly, Block, Optional, Reserved}
 use Rattle.gauge_laws.proofs.Minutes.{ten-exactly}
@@ -44,6 +41,7 @@ use Rattle.clock.specs.declared.Sampled.{Sampled}
 use Rattle.area.specs.declared.Loaded.{Loaded}
 use Rattle.rooms.specs.declared.Wrote.{Wrote}
 use Rattle.capture.specs.declared.Opened.{Opened}
+use Rattle.pec.specs.Messages.{endsInPec}
 use Rattle.pec.specs.declared.Checked.{Checked}
 use Rattle.pec.specs.declared.Compared.{Compared}
 use Rattle.pack.specs.Sound.{soundOf}
@@ -53,9 +51,9 @@ use Rattle.sheet_edit.specs.Edit.{holdsSheet, sheetAfter, isName, sizeOf, editA
 use Rattle.sheet_writer.specs.Writing.{sheetWrote, writable, short}
 use Rattle.shelf.specs.Shelf.{anyBad}
 use Rattle.shelf.proofs.Steps.{report-answer}
-use Rattle.answers.specs.Conditions.{commandOf, isReserved, isOptional, isDenied, isBlock, transactConditions, chargerTransactConditions, isNone, overflows, editConditions, tableConditions}
+use Rattle.answers.specs.Conditions.{commandOf, isDenied, sideConditions, isNone, overflows, editConditions, tableConditions}
 use Rattle.answers.specs.Lowest.{_when_, lowest, allAbove, rising, firstHolding}
-use Rattle.answers.specs.Promises.{TransactLowest, SetUpLowest, SampleLowest, LoadLowest, StoreLowest, ChargerTransactLowest, ChargerSampleLowest, ChargerLoadLowest, ChargerStoreLowest, WriteKeyLowest, ReadKeyLowest, FindLowest, UnescapeLowest, BlockLowest, LocateLowest, WriteSheetLowest, EditLowest, OpenLowest, StepLowest, WriteCaptureLowest, ExchangeLowest, ComparisonLowest, ReportLowest, TableReportLowest}
+use Rattle.answers.specs.Promises.{SideLowest, TransactLowest, SetUpLowest, SampleLowest, LoadLowest, StoreLowest, ChargerTransactLowest, ChargerSampleLowest, ChargerLoadLowest, ChargerStoreLowest, WriteKeyLowest, ReadKeyLowest, FindLowest, UnescapeLowest, BlockLowest, LocateLowest, WriteSheetLowest, EditLowest, OpenLowest, StepLowest, WriteCaptureLowest, ExchangeLowest, ComparisonLowest, ReportLowest, TableReportLowest}
 use Rattle.answers.proofs.Lowest.{first-is-lowest}
 
 -- ---- one condition
@@ -239,15 +237,27 @@ table-report-lowest table room = sym (first-is-lowest (tableConditions table roo
 
 -- ---- transactions
 
+-- a write that must carry PEC and has none isn't one whose PEC is wrong: 4 goes before 5
+four-first : (must checked wrong : Bool) (row : ℕ)
+    → cond (checked && wrong) 5 (cond (must && not checked) 4 row) ≡ cond (must && not checked) 4 (cond (checked && wrong) 5 row)
+four-first true true wrong row = refl
+four-first true false wrong row = refl
+four-first false true wrong row = refl
+four-first false false wrong row = refl
+
 -- a request's answer, by what stands in its way
-asks : (d : Side) (a b c read : Bool) (bytes : List ℕ) (checked : Bool)
-    → requestAnswer d (cond a (Refused 3) (cond b (Refused 4) (cond c (Refused 5) (cond read (Read (getD bytes 1 0)) (writeOf bytes checked)))))
-    ≡ cond a 3 (cond b 4 (cond c 5 (cond read (readAnswer d (commandOf bytes) (d .kinds (commandOf bytes))) (writeAnswer (d .kinds (commandOf bytes))))))
-asks d true b c read bytes checked = refl
-asks d false true c read bytes checked = refl
-asks d false false true read bytes checked = refl
-asks d false false false true bytes checked = refl
-asks d false false false false bytes checked = refl
+asks : (d : Side) (a b wrong read : Bool) (bytes : List ℕ) (checked : Bool)
+    → requestAnswer d (cond a (Refused 3) (cond b (Refused 4) (cond (not read && (checked && wrong)) (Refused 5) (cond read (Read (getD bytes 1 0)) (writeOf bytes checked)))))
+    ≡ cond a 3 (cond (b || (not read && bare d checked)) 4
+        (cond (not read && (checked && wrong)) 5 (cond read (readAnswer d (commandOf bytes) (d .kinds (commandOf bytes))) (writeAnswer (d .kinds (commandOf bytes))))))
+asks d true b wrong read bytes checked = refl
+asks d false true wrong read bytes checked = refl
+asks d false false wrong true bytes checked = refl
+asks d false false wrong false bytes checked = refused (checked && wrong) ∙ four-first (d .mustCheck) checked wrong (writeAnswer (d .kinds (commandOf bytes)))
+  where
+    refused : (c : Bool) → requestAnswer d (cond c (Refused 5) (writeOf bytes checked)) ≡ cond c 5 (cond (d .mustCheck && not checked) 4 (writeAnswer (d .kinds (commandOf bytes))))
+    refused true = refl
+    refused false = refl
 
 -- a row's answer is the first of 6 to 10 that holds; only a word that is read only is answered 10
 by-row : (d : Side) (command : ℕ) (k : Kind) (read good ten : Bool)
@@ -268,47 +278,20 @@ by-row d command Block false good ten only block word = refl
 by-row d command ReadOnly false good ten only block word = refl
 by-row d command ReadWrite false good ten only block word = refl
 
+pub side-lowest : SideLowest
+unfolding sideAnswer requestOf firstHolding rising allAbove
+side-lowest d read bytes room good cut block word only =
+    ap (λ a. cond (not (d .sound)) 1 (cond (ltb room (d .least)) 2 a))
+    (asks d (foreign (d .address) bytes) (misshapen (d .address) read bytes) (not (endsInPec bytes)) read bytes (eqb (length bytes) 5)
+    ∙ ap (λ a. cond (foreign (d .address) bytes) 3 (cond (misshapen (d .address) read bytes || (not read && bare d (eqb (length bytes) 5))) 4 (cond (miscoded read bytes) 5 a)))
+    (by-row d (commandOf bytes) (d .kinds (commandOf bytes)) read good cut only block word))
+    ∙ sym (first-is-lowest (sideConditions d read bytes room good cut) refl)
+
 pub transact-lowest : TransactLowest
-unfolding transactOf transactAnswer sideAnswer requestOf firstHolding rising allAbove blockAnswer
+unfolding transactOf transactAnswer blockAnswer
 transact-lowest s service factory read bytes room =
-    let d = packSide s service factory in
-    ap (λ a. cond (not (soundOf s)) 1 (cond (ltb room 34) 2 a))
-    (asks d (foreign 0x16 bytes) (misshapen 0x16 read bytes) (miscoded read bytes) read bytes (eqb (length bytes) 5)
-    ∙ ap (λ a. cond (foreign 0x16 bytes) 3 (cond (misshapen 0x16 read bytes) 4 (cond (miscoded read bytes) 5 a)))
-    (by-row d (commandOf bytes) (kindOf (commandOf bytes)) read (goodSheets service factory) (isTen (s .pack) (commandOf bytes)) (ten-read-only (s .pack) (commandOf bytes)) refl (ten-exactly s (commandOf bytes))))
-    ∙ sym (first-is-lowest (transactConditions s service factory read bytes room) refl)
-
--- ---- the charger's transactions
-
--- none of its commands is optional
-none-optional : (command : ℕ) → isOptional (chargerKind command) ≡ false
-unfolding chargerKind
-none-optional command =
-    chosen (λ (k : Kind). isOptional k ≡ false) (isShown command) (λ e. refl)
-    (λ e. chosen (λ (k : Kind). isOptional k ≡ false) (isTaken command) (λ f. refl) (λ f. refl))
-
--- a row's answer is the first of 6 and 8 that holds
-by-charger-row : (s : Charger) (command : ℕ) (k : Kind) (read : Bool) → isOptional k ≡ false
-    → cond read (readAnswer (charger-bus.chargerSide s) command k) (writeAnswer k) ≡ firstHolding ((6 when isReserved k) ∷ (8 when isDenied read k) ∷ [])
-unfolding firstHolding
-by-charger-row s command Reserved read e = alike read 6
-by-charger-row s command Optional read e = absurd (true≢false e)
-by-charger-row s command Block true e = refl
-by-charger-row s command ReadOnly true e = refl
-by-charger-row s command WriteOnly true e = refl
-by-charger-row s command ReadWrite true e = refl
-by-charger-row s command Block false e = refl
-by-charger-row s command ReadOnly false e = refl
-by-charger-row s command WriteOnly false e = refl
-by-charger-row s command ReadWrite false e = refl
+    side-lowest (packSide s service factory) read bytes room (goodSheets service factory) (isTen (s .pack) (commandOf bytes)) refl (ten-exactly s (commandOf bytes)) (ten-read-only (s .pack) (commandOf bytes))
 
 pub charger-transact-lowest : ChargerTransactLowest
-unfolding charger-bus.transactOf charger-bus.transactAnswer sideAnswer requestOf firstHolding rising allAbove
-charger-transact-lowest s read bytes room =
-    let d = charger-bus.chargerSide s in
-    let command = commandOf bytes in
-    ap (λ a. cond (not (charger.soundOf s)) 1 (cond (ltb room 3) 2 a))
-    (asks d (foreign 0x12 bytes) (misshapen 0x12 read bytes) (miscoded read bytes) read bytes (eqb (length bytes) 5)
-    ∙ ap (λ a. cond (foreign 0x12 bytes) 3 (cond (misshapen 0x12 read bytes) 4 (cond (miscoded read bytes) 5 a)))
-    (by-charger-row s command (chargerKind command) read (none-optional command)))
-    ∙ sym (first-is-lowest (chargerTransactConditions s read bytes room) refl)
+unfolding charger-bus.transactOf charger-bus.transactAnswer
+charger-transact-lowest s read bytes room = side-lowest (charger-bus.chargerSide s) read bytes room true false refl refl (λ e. absurd (true≢false (sym e)))

@@ -7,16 +7,17 @@ use mathlib.Core.Option.{Option, none, some}
 use lib.Dec.{eqb, ltb}
 use lib.ListN.{length, getD}
 use Rattle.area.specs.Area.{isArea, storable}
+use Rattle.bus.specs.Transact.{packSide}
 use Rattle.capture.specs.Capture.{isCapture}
 use Rattle.capture.specs.Walk.{seenBad}
 use Rattle.capture_writer.specs.Writer.{givenFit, roomAsked}
 use Rattle.charger.specs.Charger as charger
-use Rattle.charger.specs.Commands.{chargerKind}
+use Rattle.charger.specs.Transact.{chargerSide}
 use Rattle.charger.specs.declared.Charger.{Charger}
 use Rattle.charger_area.specs.Area.{chargerLength, isChargerArea}
-use Rattle.commands.specs.Commands.{kindOf}
+use Rattle.commands.specs.Answers.{Side, bare}
+use Rattle.commands.specs.Commands.{isReserved, isOptional, isReadOnly, isWriteOnly, isBlock}
 use Rattle.commands.specs.declared.Kind.{Kind}
-use Rattle.commands.specs.declared.Kind.the-variants.{ReadWrite, ReadOnly, WriteOnly, Block, Optional, Reserved}
 use Rattle.frame.specs.Transactions.{foreign, misshapen, miscoded}
 use Rattle.gauge_laws.specs.Minutes.{isTen}
 use Rattle.names.specs.Names.{nameIn}
@@ -39,70 +40,31 @@ use Rattle.answers.specs.Lowest.{Condition, _when_}
 abbrev pub commandOf : List ℕ → ℕ
 commandOf bytes = getD bytes 1 0
 
--- the row of a command is reserved
-abbrev pub isReserved : Kind → Bool
-isReserved Reserved = true
-isReserved Optional = false
-isReserved Block = false
-isReserved ReadOnly = false
-isReserved WriteOnly = false
-isReserved ReadWrite = false
-
--- optional, not built
-abbrev pub isOptional : Kind → Bool
-isOptional Reserved = false
-isOptional Optional = true
-isOptional Block = false
-isOptional ReadOnly = false
-isOptional WriteOnly = false
-isOptional ReadWrite = false
-
--- read only, a block among them
-abbrev pub isReadOnly : Kind → Bool
-isReadOnly Reserved = false
-isReadOnly Optional = false
-isReadOnly Block = true
-isReadOnly ReadOnly = true
-isReadOnly WriteOnly = false
-isReadOnly ReadWrite = false
-
--- write only, as some of a charger's commands are
-abbrev pub isWriteOnly : Kind → Bool
-isWriteOnly Reserved = false
-isWriteOnly Optional = false
-isWriteOnly Block = false
-isWriteOnly ReadOnly = false
-isWriteOnly WriteOnly = true
-isWriteOnly ReadWrite = false
-
 -- 8, by the driver's mark: a read of a write-only command, or a write to a read-only one (RULES 1.8)
 abbrev pub isDenied : Bool → Kind → Bool
 isDenied read k = cond read (isWriteOnly k) (isReadOnly k)
 
--- a block
-abbrev pub isBlock : Kind → Bool
-isBlock Reserved = false
-isBlock Optional = false
-isBlock Block = true
-isBlock ReadOnly = false
-isBlock WriteOnly = false
-isBlock ReadWrite = false
+-- of any side of the bus. 1: state isn't sound; 2: lent reply room too short; 3: empty, or first byte isn't the address's; 4: wrong size or form, or a write
+-- without PEC where it must carry one; 5: five-byte write, PEC wrong; 6: reserved command; 7: optional command not built; 8: denied; 9: block read that isn't
+-- good; 10: a read that is cut off (RULES 1.1 to 1.10, 15.2)
+abbrev pub sideConditions : Side → Bool → List ℕ → ℕ → Bool → Bool → List Condition
+sideConditions d read bytes room good cut =
+    (1 when not (d .sound))
+    ∷ (2 when ltb room (d .least))
+    ∷ (3 when foreign (d .address) bytes)
+    ∷ (4 when (misshapen (d .address) read bytes || (not read && bare d (eqb (length bytes) 5))))
+    ∷ (5 when miscoded read bytes)
+    ∷ (6 when isReserved (d .kinds (commandOf bytes)))
+    ∷ (7 when isOptional (d .kinds (commandOf bytes)))
+    ∷ (8 when isDenied read (d .kinds (commandOf bytes)))
+    ∷ (9 when (read && (isBlock (d .kinds (commandOf bytes)) && not good)))
+    ∷ (10 when (read && cut))
+    ∷ []
 
--- 1: state isn't sound; 2: lent reply room under 34 bytes; 3: empty, or first byte isn't 0x16; 4: wrong size or form; 5: five-byte write, PEC wrong;
--- 6: reserved command; 7: optional command not built; 8: write to a read-only command; 9: block read, a sheet is bad; 10: AtRateTimeToFull in power mode, or a time beyond the range (RULES 1.1 to 1.10)
+-- of the pack: blocks are good where both sheets are; cut off are AtRateTimeToFull in power mode and a time beyond the range (RULES 1.9, 1.10)
 abbrev pub transactConditions : State → List ℕ → List ℕ → Bool → List ℕ → ℕ → List Condition
 transactConditions s service factory read bytes room =
-    (1 when not (soundOf s))
-    ∷ (2 when ltb room 34)
-    ∷ (3 when foreign 0x16 bytes)
-    ∷ (4 when misshapen 0x16 read bytes)
-    ∷ (5 when miscoded read bytes)
-    ∷ (6 when isReserved (kindOf (commandOf bytes)))
-    ∷ (7 when isOptional (kindOf (commandOf bytes)))
-    ∷ (8 when isDenied read (kindOf (commandOf bytes)))
-    ∷ (9 when (read && (isBlock (kindOf (commandOf bytes)) && not (goodSheets service factory))))
-    ∷ (10 when (read && isTen (s .pack) (commandOf bytes)))
-    ∷ []
+    sideConditions (packSide s service factory) read bytes room (goodSheets service factory) (isTen (s .pack) (commandOf bytes))
 
 -- ---- the state
 
@@ -124,17 +86,9 @@ storeConditions s room = (1 when not (storable s room)) ∷ []
 
 -- ---- the charger
 
--- as of the pack, with 0x12 in the address's place and a room under 3 bytes; none of its commands is optional, a block or cut off (RULES 14.1)
+-- of the charger: it has no block, and nothing is cut off (RULES 14.1)
 abbrev pub chargerTransactConditions : Charger → Bool → List ℕ → ℕ → List Condition
-chargerTransactConditions s read bytes room =
-    (1 when not (charger.soundOf s))
-    ∷ (2 when ltb room 3)
-    ∷ (3 when foreign 0x12 bytes)
-    ∷ (4 when misshapen 0x12 read bytes)
-    ∷ (5 when miscoded read bytes)
-    ∷ (6 when isReserved (chargerKind (commandOf bytes)))
-    ∷ (8 when isDenied read (chargerKind (commandOf bytes)))
-    ∷ []
+chargerTransactConditions s read bytes room = sideConditions (chargerSide s) read bytes room true false
 
 -- 1: state isn't sound (RULES 1.1)
 abbrev pub chargerSampleConditions : Charger → List Condition

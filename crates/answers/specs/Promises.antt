@@ -1,7 +1,7 @@
 -- Each public function's answer is the lowest number whose condition holds, 0 when none does.
 -- Assumes nothing.
 use Prim.Native.Nat.{ℕ}
-use mathlib.Core.Bool.{Bool}
+use mathlib.Core.Bool.{Bool, true, cond}
 use mathlib.Core.List.{List}
 use mathlib.Core.Option.{Option}
 use mathlib.Core.Path.{_≡_}
@@ -14,6 +14,9 @@ use Rattle.charger.specs.Transact as charger-bus
 use Rattle.charger.specs.declared.Charger.{Charger}
 use Rattle.charger_area.specs.Area as charger-area
 use Rattle.clock.specs.Broadcast.{sampleOf}
+use Rattle.commands.specs.Answers.{Side, sideAnswer}
+use Rattle.commands.specs.declared.Kind.the-variants.{ReadOnly}
+use Rattle.frame.specs.Transactions.{requestOf}
 use Rattle.names.specs.Names.{nameIn, plainWrote}
 use Rattle.key.specs.Key.{readKey, readOf, foundOf}
 use Rattle.key_writer.specs.Writing.{keyWrote}
@@ -29,8 +32,16 @@ use Rattle.sheet_writer.specs.Writing.{sheetWrote}
 use Rattle.shelf.specs.Shelf.{reportOf}
 use Rattle.shelf.specs.declared.Row.{Row}
 use Rattle.shelf_table.specs.Table.{tableWrote}
-use Rattle.answers.specs.Conditions.{transactConditions, setUpConditions, sampleConditions, loadConditions, storeConditions, chargerTransactConditions, chargerSampleConditions, chargerLoadConditions, chargerStoreConditions, writeKeyConditions, readKeyConditions, unescapeConditions, blockConditions, writeSheetConditions, editConditions, captureConditions, stepConditions, writeCaptureConditions, exchangeConditions, comparisonConditions, reportConditions, tableConditions}
+use Rattle.answers.specs.Conditions.{commandOf, sideConditions, transactConditions, setUpConditions, sampleConditions, loadConditions, storeConditions, chargerTransactConditions, chargerSampleConditions, chargerLoadConditions, chargerStoreConditions, writeKeyConditions, readKeyConditions, unescapeConditions, blockConditions, writeSheetConditions, editConditions, captureConditions, stepConditions, writeCaptureConditions, exchangeConditions, comparisonConditions, reportConditions, tableConditions}
 use Rattle.answers.specs.Lowest.{lowest}
+
+-- a transaction with any side of the bus, whose blocks are answered 9 where they aren't good, and whose words, read only, 10 where they are cut off
+abbrev pub SideLowest : Type 0
+SideLowest =
+    (d : Side) (read : Bool) (bytes : List ℕ) (room : ℕ) (good cut : Bool)
+    → d .blockAnswer (commandOf bytes) ≡ cond good 0 9 → d .wordAnswer (commandOf bytes) ≡ cond cut 10 0
+    → (cut ≡ true → d .kinds (commandOf bytes) ≡ ReadOnly)
+    → sideAnswer d (requestOf (d .address) read bytes) room ≡ lowest (sideConditions d read bytes room good cut)
 
 -- `transact`
 abbrev pub TransactLowest : Type 0

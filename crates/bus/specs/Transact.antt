@@ -1,14 +1,14 @@
 -- Document 01, Answer numbers and Transactions: what every byte string is answered, the reply, and the state left.
 -- Assumes nothing.
 use Prim.Native.Nat.{ℕ}
-use mathlib.Core.Bool.{Bool, cond}
+use mathlib.Core.Bool.{Bool, false, cond}
 use mathlib.Core.List.{List}
 use lib.ListN.{length}
 use Rattle.bus.specs.declared.Transacted.{Transacted}
 use Rattle.commands.specs.Answers.{Side, codeAfter, readAnswer, sideAnswer, served, sideReply, rowReply}
 use Rattle.commands.specs.declared.Kind.{Kind}
 use Rattle.commands.specs.Commands.{kindOf}
-use Rattle.frame.specs.Transactions.{requestOf}
+use Rattle.frame.specs.Transactions.{requestOf, blockBody}
 use Rattle.frame.specs.declared.Request.{Request}
 use Rattle.frame.specs.declared.Request.the-variants.{Refused, Read, Write}
 use Rattle.gauge.specs.Word.{wordOf, wordAnswer}
@@ -21,18 +21,20 @@ use Rattle.written.specs.Written.{packWritten}
 
 -- ---- the pack's side of the bus
 
--- the pack at 0x16 with its table of commands; 2: lent reply room under 34 bytes; 10 comes with the word, 9 with the sheets (RULES 1.2, 1.9, 1.10, 5.1)
+-- the pack at 0x16 with its table of commands; writes come with or without PEC; 2: lent reply room under 34 bytes; 10 comes with the word, 9 with the sheets;
+-- a block is shown with its count (RULES 1.2, 1.9, 1.10, 5.1, 5.3, 5.6)
 abbrev pub packSide : State → List ℕ → List ℕ → Side
 packSide s service factory =
     record {
       address = 0x16;
       kinds = kindOf;
+      mustCheck = false;
       least = 34;
       sound = soundOf s;
       wordAnswer = λ command. wordAnswer s command;
       word = λ command. wordOf s command;
       blockAnswer = λ command. blockAnswer service factory;
-      block = λ command. blockOf service factory command;
+      block = λ command. blockBody (blockOf service factory command);
     }
 
 -- ---- the state left

@@ -30,4 +30,4 @@ read-row s c command l sound room r = in-rows s c command l sound room r ∙ ap 
 
 pub write-row : WriteRow
 unfolding transactAnswer kindOf
-write-row s c command word l sound room w = write-in-rows (visit s c) command word _ refl l (sound, room) w
+write-row s c command word l sound room (r, (checked, w)) = write-in-rows (visit s c) command word checked _ refl l (sound, room) (r, w)

@@ -4,11 +4,12 @@ use Prim.Native.Nat.{ℕ, zero, suc, _-_}
 use mathlib.Core.List.{List, [], _∷_}
 use native.Mathlib.Omega.{arith}
 use lib.ListN.{drop}
-use Rattle.bus.specs.Transact.{transactAnswer, transactReply}
+use Rattle.bus.specs.Transact.{packSide, transactAnswer, transactReply}
 use Rattle.bus_laws.specs.Calls.{Call, visit, Exchanged}
 use Rattle.bus_laws.specs.Promises.{PackReplied, PackPasses, PackAccepted, PackLength, PackApart, PackMisheard}
 use Rattle.commands_laws.proofs.Visits as visits
-use Rattle.commands_laws.specs.Visits.{VisitExchanged}
+use Rattle.commands_laws.specs.Visits.{BlockFits, VisitExchanged}
+use Rattle.frame_laws.proofs.Replies.{block-bytes}
 use Rattle.gauge_laws.proofs.Range.{word-below}
 use Rattle.pack.specs.declared.State.{State}
 use Rattle.rooms.proofs.Rooms.{first-bytes}
@@ -24,13 +25,17 @@ pub exchange-passes : PackPasses
 unfolding transactAnswer transactReply
 exchange-passes s c command r v = visits.exchange-passes (visit s c) command r v
 
+-- a name has at most 32 bytes, and its count before them
+block-fits : (s : State) (c : Call) (command : ℕ) → BlockFits (packSide s (c .service) (c .factory)) command
+block-fits s c command k = (omega arith, omega (arith, block-short (c .service) (c .factory) command))
+
 pub exchange-accepted : PackAccepted
 unfolding transactAnswer transactReply
-exchange-accepted s c command r v = visits.exchange-accepted (visit s c) command r v (block-short (c .service) (c .factory) command)
+exchange-accepted s c command r v = visits.exchange-accepted (visit s c) command r v (block-fits s c command)
 
 pub exchange-length : PackLength
 unfolding transactAnswer transactReply
-exchange-length s c command r v = visits.exchange-length (visit s c) command r v (block-short (c .service) (c .factory) command)
+exchange-length s c command r v = visits.exchange-length (visit s c) command r v (block-fits s c command)
 
 -- ---- what the pack shows are bytes
 
@@ -57,8 +62,9 @@ exchanged s c x =
       address = omega arith;
       a-byte = x .a-byte;
       word = word-below s (x .command) (visits.served-heard (visit s c) (x .is-served) .0) (x .fits);
-      block = name-bytes (c .service) (c .factory) (x .command) (x .service) (x .factory);
-      short = block-short (c .service) (c .factory) (x .command);
+      block =
+          block-bytes (blockOf (c .service) (c .factory) (x .command)) (block-short (c .service) (c .factory) (x .command))
+          (name-bytes (c .service) (c .factory) (x .command) (x .service) (x .factory));
     }
 
 pub exchanges-apart : PackApart

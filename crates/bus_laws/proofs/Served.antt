@@ -36,7 +36,7 @@ read-answer s c command e h r = read-by-row (visit s c) command (e, h) r
 
 pub write-answer : (s : State) (c : Call) (command word : ℕ) → soundOf s ≡ true → 34 ≤ c .room → Writes c command word → answer s c ≡ writeAnswer (kindOf command)
 unfolding transactAnswer
-write-answer s c command word e h w = write-by-row (visit s c) command word (e, h) w
+write-answer s c command word e h (r, (checked, w)) = write-by-row (visit s c) command word checked (e, h) (r, w)
 
 -- ---- a refusal
 

@@ -1,7 +1,7 @@
 -- Request R-7: what every byte string is answered by the charger, the reply, and the state left.
 -- Assumes nothing.
 use Prim.Native.Nat.{ℕ}
-use mathlib.Core.Bool.{Bool, cond}
+use mathlib.Core.Bool.{Bool, false, cond}
 use mathlib.Core.List.{List, []}
 use lib.ListN.{length}
 use Rattle.charger.specs.Charger.{soundOf, wordOf}
@@ -16,12 +16,14 @@ use Rattle.frame.specs.declared.Request.{Request}
 use Rattle.frame.specs.declared.Request.the-variants.{Refused, Read, Write}
 use Rattle.rooms.specs.Rooms.{placed}
 
--- the charger's side of the bus: at 0x12 with its table of commands; 2: lent reply room under 3 bytes; every word that it shows is answered 0, and it has no block (RULES 14.1)
+-- the charger's side of the bus: at 0x12 with its table of commands; writes come with or without PEC; 2: lent reply room under 3 bytes; every word that it
+-- shows is answered 0, and it has no block (RULES 14.1)
 abbrev pub chargerSide : Charger → Side
 chargerSide s =
     record {
       address = 0x12;
       kinds = chargerKind;
+      mustCheck = false;
       least = 3;
       sound = soundOf s;
       wordAnswer = λ command. 0;

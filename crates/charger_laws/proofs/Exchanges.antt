@@ -15,9 +15,10 @@ use Rattle.charger_laws.specs.Promises.{ExchangePasses, ExchangeAccepted
 use Rattle.commands.specs.Answers.{served}
 use Rattle.commands.specs.Lengths.{Lengths}
 use Rattle.commands.specs.declared.Kind.{Kind}
+use Rattle.commands.specs.Commands.{isBlock}
 use Rattle.commands.specs.declared.Kind.the-variants.{Optional}
 use Rattle.commands_laws.proofs.Visits as visits
-use Rattle.commands_laws.specs.Visits.{VisitExchanged}
+use Rattle.commands_laws.specs.Visits.{BlockFits, VisitExchanged}
 use Rattle.rooms.proofs.Choice.{chosen}
 use Rattle.registers.specs.Registers.{bit}
 
@@ -28,9 +29,19 @@ of-a-word command n h =
     chosen (λ (k : Kind). Lengths k n → n ≡ 6) (isShown command) (λ e l. l)
     (λ e. chosen (λ (k : Kind). Lengths k n → n ≡ 6) (isTaken command) (λ f l. absurd l) (λ f l. absurd l)) (h .1)
 
+-- none of its rows is a block
+never-block : (command : ℕ) → isBlock (chargerKind command) ≡ false
+unfolding chargerKind
+never-block command =
+    chosen (λ (k : Kind). isBlock k ≡ false) (isShown command) (λ e. refl)
+    (λ e. chosen (λ (k : Kind). isBlock k ≡ false) (isTaken command) (λ f. refl) (λ f. refl))
+
+no-block : (s : Charger) (command : ℕ) → BlockFits (chargerSide s) command
+no-block s command k = absurd (true≢false (sym (ap isBlock k) ∙ never-block command))
+
 six-bytes : (s : Charger) (c : Call) (command : ℕ) → Reads c command → served (answer s c) ≡ true → length (exchange s c) ≡ 6
 unfolding transactAnswer transactReply
-six-bytes s c command r v = of-a-word command (length (exchange s c)) (visits.exchange-length (visit s c) command r v (omega arith))
+six-bytes s c command r v = of-a-word command (length (exchange s c)) (visits.exchange-length (visit s c) command r v (no-block s command))
 
 pub exchange-passes : ExchangePasses
 unfolding transactAnswer transactReply
@@ -38,7 +49,7 @@ exchange-passes s c command r v = (visits.exchange-passes (visit s c) command r 
 
 pub exchange-accepted : ExchangeAccepted
 unfolding transactAnswer transactReply
-exchange-accepted s c command r v = visits.exchange-accepted (visit s c) command r v (omega arith)
+exchange-accepted s c command r v = visits.exchange-accepted (visit s c) command r v (no-block s command)
 
 -- ---- its words are words
 
@@ -65,7 +76,6 @@ exchanged s c x =
       a-byte = x .a-byte;
       word = word-below s (x .command);
       block = tt;
-      short = omega arith;
     }
 
 pub exchanges-apart : ExchangesApart

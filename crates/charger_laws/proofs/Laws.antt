@@ -58,7 +58,7 @@ read-row s c command l sound room r = read-in-rows (visit s c) command _ refl l 
 
 pub write-row : WriteRow
 unfolding transactAnswer chargerKind
-write-row s c command word l sound room w = write-in-rows (visit s c) command word _ refl l (sound, room) w
+write-row s c command word l sound room (r, (checked, w)) = write-in-rows (visit s c) command word checked _ refl l (sound, room) (r, w)
 
 -- ---- which answers come
 

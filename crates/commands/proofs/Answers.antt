@@ -8,7 +8,7 @@ use native.Mathlib.Omega.{arith}
 use borrow.Author.Tests.{lt-ltb, le-ltb}
 use lib.Dec.{ltb}
 use lib.ListN.{length}
-use Rattle.commands.specs.Answers.{Side, writeAnswer, requestAnswer, sideAnswer, served, readBody, sideReply}
+use Rattle.commands.specs.Answers.{Side, writeAnswer, bare, requestAnswer, sideAnswer, served, readBody, sideReply}
 use Rattle.commands.specs.declared.Kind.{Kind}
 use Rattle.commands.specs.declared.Kind.the-variants.{ReadWrite, ReadOnly, WriteOnly, Block, Optional, Reserved}
 use Rattle.frame.proofs.Replies.{reply-length}
@@ -35,17 +35,17 @@ refused-reply d bytes (Refused n) answer e = refl
 refused-reply d bytes (Read command) answer e = ap (λ (b : Bool). cond b (sideReply d bytes (Read command) 0) []) e
 refused-reply d bytes (Write command word checked) answer e = refl
 
--- what a read shows is a word of two bytes, or a block with its count
-body-most : (d : Side) (most command : ℕ) (k : Kind) → 2 ≤ most → length (d .block command) + 1 ≤ most → length (readBody d command k) ≤ most
+-- what a read shows is a word of two bytes, or a block's bytes
+body-most : (d : Side) (most command : ℕ) (k : Kind) → 2 ≤ most → length (d .block command) ≤ most → length (readBody d command k) ≤ most
 body-most d most command ReadWrite w b = omega (arith, w)
 body-most d most command ReadOnly w b = omega (arith, w)
 body-most d most command WriteOnly w b = omega arith
-body-most d most command Block w b = omega (arith, b)
+body-most d most command Block w b = b
 body-most d most command Optional w b = omega arith
 body-most d most command Reserved w b = omega arith
 
 -- a reply is that and its PEC
-pub reply-most : (d : Side) (most : ℕ) → 2 ≤ most → ((command : ℕ) → length (d .block command) + 1 ≤ most)
+pub reply-most : (d : Side) (most : ℕ) → 2 ≤ most → ((command : ℕ) → length (d .block command) ≤ most)
     → (bytes : List ℕ) (request : Request) (answer : ℕ) → length (sideReply d bytes request answer) ≤ most + 1
 reply-most d most w b bytes (Refused n) answer = omega arith
 reply-most d most w b bytes (Read command) answer = go (served answer)
@@ -71,10 +71,11 @@ write-refused ReadWrite h = absurd (h refl)
 pub none-served : (d : Side) (command word : ℕ) (checked : Bool) (room : ℕ) → (sideAnswer d (Write command word checked) room ≡ 0 → ⊥)
     → served (sideAnswer d (Write command word checked) room) ≡ false
 unfolding sideAnswer
-none-served d command word checked room = go (not (d .sound)) (ltb room (d .least))
+none-served d command word checked room = go (not (d .sound)) (ltb room (d .least)) (bare d checked)
   where
-    go : (unsound short : Bool) → (cond unsound 1 (cond short 2 (writeAnswer (d .kinds command))) ≡ 0 → ⊥)
-        → served (cond unsound 1 (cond short 2 (writeAnswer (d .kinds command)))) ≡ false
-    go true short h = refl
-    go false true h = refl
-    go false false h = write-refused (d .kinds command) h
+    go : (unsound short without : Bool) → (cond unsound 1 (cond short 2 (cond without 4 (writeAnswer (d .kinds command)))) ≡ 0 → ⊥)
+        → served (cond unsound 1 (cond short 2 (cond without 4 (writeAnswer (d .kinds command))))) ≡ false
+    go true short without h = refl
+    go false true without h = refl
+    go false false true h = refl
+    go false false false h = write-refused (d .kinds command) h

@@ -1,20 +1,22 @@
 -- Document 01, Answer numbers and Transactions: what a request is answered and what is replied, for any address, any table of commands and whatever is shown.
 -- Assumes nothing.
 use Prim.Native.Nat.{ℕ}
-use mathlib.Core.Bool.{Bool, cond, not, _||_}
+use mathlib.Core.Bool.{Bool, cond, not, _&&_, _||_}
 use mathlib.Core.List.{List, []}
 use lib.Dec.{ltb, eqb}
 use Rattle.commands.specs.declared.Kind.{Kind}
 use Rattle.commands.specs.declared.Kind.the-variants.{ReadWrite, ReadOnly, WriteOnly, Block, Optional, Reserved}
-use Rattle.frame.specs.Transactions.{replyOf, wordBody, blockBody}
+use Rattle.frame.specs.Transactions.{replyOf, wordBody}
 use Rattle.frame.specs.declared.Request.{Request}
 use Rattle.frame.specs.declared.Request.the-variants.{Refused, Read, Write}
 
--- one side of the bus: its address by the write byte, its table of commands, the reply room that it asks for, whether its state is sound,
--- and what it shows: each word and each block, with the answer that a read of it is given
+-- one side of the bus: its address by the write byte, its table of commands, whether its writes must carry PEC, the reply room that it asks for,
+-- whether its state is sound, and what it shows: each word, and the bytes of each block, its count among them where it has one, with the answer
+-- that a read of it is given
 pub record Side : Type 0 where
   pub address : ℕ
   pub kinds : ℕ → Kind
+  pub mustCheck : Bool
   pub least : ℕ
   pub sound : Bool
   pub wordAnswer : ℕ → ℕ
@@ -42,11 +44,15 @@ writeAnswer ReadOnly = 8
 writeAnswer WriteOnly = 0
 writeAnswer ReadWrite = 0
 
--- what a request is answered; 3, 4 and 5 come with it
+-- a write without PEC, where it must carry one, has the wrong form (RULES 15.2)
+abbrev pub bare : Side → Bool → Bool
+bare d checked = d .mustCheck && not checked
+
+-- what a request is answered; 3, 4 and 5 come with it, 4 also for a bare write
 abbrev pub requestAnswer : Side → Request → ℕ
 requestAnswer d (Refused answer) = answer
 requestAnswer d (Read command) = readAnswer d command (d .kinds command)
-requestAnswer d (Write command word checked) = writeAnswer (d .kinds command)
+requestAnswer d (Write command word checked) = cond (bare d checked) 4 (writeAnswer (d .kinds command))
 
 -- 1: state isn't sound; 2: lent reply room too short; then the request's: so the lowest number above 0 whose condition holds (RULES 2.1)
 unfoldable pub sideAnswer : Side → Request → ℕ → ℕ
@@ -76,7 +82,7 @@ codeAfter answer before =
 
 -- what a read shows, by its command's row: a block or a word
 abbrev pub readBody : Side → ℕ → Kind → List ℕ
-readBody d command Block = blockBody (d .block command)
+readBody d command Block = d .block command
 readBody d command ReadOnly = wordBody (d .word command)
 readBody d command ReadWrite = wordBody (d .word command)
 readBody d command WriteOnly = []

@@ -9,7 +9,7 @@ use borrow.Author.Tests.{ltb-true, ltb-false}
 use lib.Dec.{ltb}
 use lib.ListN.{length, getD}
 use Rattle.commands.proofs.Answers.{unsound, small-room, past-two}
-use Rattle.commands.specs.Answers.{readAnswer, writeAnswer, requestAnswer, served, readBody, sideReply}
+use Rattle.commands.specs.Answers.{readAnswer, writeAnswer, bare, requestAnswer, served, readBody, sideReply}
 use Rattle.commands.specs.Lengths.{Lengths}
 use Rattle.commands.specs.declared.Kind.{Kind}
 use Rattle.commands.specs.declared.Kind.the-variants.{ReadWrite, ReadOnly, WriteOnly, Block, Optional, Reserved}
@@ -17,7 +17,7 @@ use Rattle.commands_laws.specs.Visits.{Visit, visitAsked, visitAnswer, v
 use Rattle.frame.specs.Transactions.{readBytes, replyOf}
 use Rattle.frame.specs.declared.Request.{Request}
 use Rattle.frame.specs.declared.Request.the-variants.{Read}
-use Rattle.frame_laws.proofs.Replies.{accepts-right, exchange-right, word-exchange, block-exchange, word-bytes, block-bytes, command-misheard, two-exchanges}
+use Rattle.frame_laws.proofs.Replies.{accepts-right, exchange-right, word-exchange, block-exchange, word-bytes, command-misheard, two-exchanges}
 use Rattle.frame_laws.proofs.Requests.{read-is, write-is}
 use Rattle.frame_laws.specs.Exchanges.{exchangeOf, FarApart}
 use Rattle.pec.proofs.Table.{value-at}
@@ -45,7 +45,7 @@ pub read-by-row : ReadByRow
 read-by-row v command h r = by-request v h (read-asked v command r)
 
 pub write-by-row : WriteByRow
-write-by-row v command word h (r, (checked, b)) = by-request v h (write-is (v .side .address) (v .read) (v .bytes) command word checked .1 (r, b))
+write-by-row v command word checked h w = by-request v h (write-is (v .side .address) (v .read) (v .bytes) command word checked .1 w)
 
 in-rows : (f : ℕ → ℕ) (command : ℕ) (rows : List ℕ) → valuesBelow 256 f ≡ rows → command < 256 → f command ≡ getD rows command 0
 in-rows f command rows e l = sym (value-at f 256 command l) ∙ ap (λ (r : List ℕ). getD r command 0) e
@@ -54,7 +54,9 @@ pub read-in-rows : ReadInRows
 read-in-rows v command rows e l h r = read-by-row v command h r ∙ in-rows (λ n. readAnswer (v .side) n (v .side .kinds n)) command rows e l
 
 pub write-in-rows : WriteInRows
-write-in-rows v command word rows e l h w = write-by-row v command word h w ∙ in-rows (λ n. writeAnswer (v .side .kinds n)) command rows e l
+write-in-rows v command word checked rows e l h w =
+    write-by-row v command word checked h w
+    ∙ ap (λ (n : ℕ). cond (bare (v .side) checked) 4 n) (in-rows (λ n. writeAnswer (v .side .kinds n)) command rows e l)
 
 -- ---- served replies
 
@@ -89,16 +91,16 @@ built WriteOnly = true
 pub exchange-length : ExchangeLength
 exchange-length v command r h short =
     subst (λ (x : List ℕ). (v .side .kinds command ≡ Optional → ⊥) × Lengths (v .side .kinds command) (length x)) (sym (whole v command r h))
-    (go (v .side .kinds command) (row-served v command r h))
+    (go (v .side .kinds command) refl (row-served v command r h))
   where
-    go : (k : Kind) → served (readAnswer (v .side) command k) ≡ true
+    go : (k : Kind) → v .side .kinds command ≡ k → served (readAnswer (v .side) command k) ≡ true
         → (k ≡ Optional → ⊥) × Lengths k (length (exchangeOf (readBytes (v .side .address) command) (readBody (v .side) command k)))
-    go Block e = (λ q. true≢false (ap built q), block-exchange (v .side .address) command (v .side .block command) short)
-    go ReadWrite e = (λ q. true≢false (ap built q), word-exchange (v .side .address) command (v .side .word command))
-    go ReadOnly e = (λ q. true≢false (ap built q), word-exchange (v .side .address) command (v .side .word command))
-    go WriteOnly e = absurd (true≢false (sym e))
-    go Optional e = absurd (true≢false (sym e))
-    go Reserved e = absurd (true≢false (sym e))
+    go Block q e = (λ z. true≢false (ap built z), block-exchange (v .side .address) command (v .side .block command) (short q .0) (short q .1))
+    go ReadWrite q e = (λ z. true≢false (ap built z), word-exchange (v .side .address) command (v .side .word command))
+    go ReadOnly q e = (λ z. true≢false (ap built z), word-exchange (v .side .address) command (v .side .word command))
+    go WriteOnly q e = absurd (true≢false (sym e))
+    go Optional q e = absurd (true≢false (sym e))
+    go Reserved q e = absurd (true≢false (sym e))
 
 -- a row's exchanges have 2 to 37 bytes, but for optional commands'
 two-to-37 : (k : Kind) (n : ℕ) → (k ≡ Optional → ⊥) × Lengths k n → (2 ≤ n) × (n ≤ 37)
@@ -117,7 +119,7 @@ exchange-accepted v command r h short =
 -- ---- exchanges
 
 body-bytes : (v : Visit) (x : VisitExchanged v) (k : Kind) → Bytes (readBody (v .side) (x .command) k)
-body-bytes v x Block = block-bytes (v .side .block (x .command)) (x .short) (x .block)
+body-bytes v x Block = x .block
 body-bytes v x ReadWrite = word-bytes (v .side .word (x .command)) (x .word)
 body-bytes v x ReadOnly = word-bytes (v .side .word (x .command)) (x .word)
 body-bytes v x WriteOnly = tt

@@ -1,13 +1,13 @@
 -- A transaction with any side of the bus, at any address, with any table of commands and whatever it shows: the theorems of `proofs/Visits.antt`.
 -- Assumes nothing.
 use Prim.Native.Nat.{ℕ, _≤_, _<_}
-use mathlib.Core.Bool.{Bool, true, false}
+use mathlib.Core.Bool.{Bool, true, false, cond}
 use mathlib.Core.List.{List, _++_}
 use mathlib.Core.Path.{_≡_}
 use lib.ListN.{length, getD}
-use Rattle.commands.specs.Answers.{Side, readAnswer, writeAnswer, served, sideAnswer, readBody, sideReply}
+use Rattle.commands.specs.Answers.{Side, readAnswer, writeAnswer, bare, served, sideAnswer, readBody, sideReply}
 use Rattle.commands.specs.Lengths.{Lengths}
-use Rattle.commands.specs.declared.Kind.the-variants.{Optional}
+use Rattle.commands.specs.declared.Kind.the-variants.{Block, Optional}
 use Rattle.frame.specs.Transactions.{requestOf, readBytes, replyOf}
 use Rattle.frame.specs.declared.Request.{Request}
 use Rattle.frame_laws.specs.Exchanges.{Accepts, FarApart}
@@ -49,8 +49,8 @@ abbrev pub VisitReads : Visit → ℕ → Type 0
 VisitReads v command = (v .read ≡ true) × (v .bytes ≡ readBytes (v .side .address) command)
 
 -- it writes a word to it, with or without PEC
-abbrev pub VisitWrites : Visit → ℕ → ℕ → Type 0
-VisitWrites v command word = (v .read ≡ false) × ((checked : Bool) × WriteBytes (v .side .address) command word checked (v .bytes))
+abbrev pub VisitWrites : Visit → ℕ → ℕ → Bool → Type 0
+VisitWrites v command word checked = (v .read ≡ false) × WriteBytes (v .side .address) command word checked (v .bytes)
 
 -- a served visit was heard
 abbrev pub ServedHeard : Type 0
@@ -63,9 +63,11 @@ abbrev pub ReadByRow : Type 0
 ReadByRow =
     (v : Visit) (command : ℕ) → Heard v → VisitReads v command → visitAnswer v ≡ readAnswer (v .side) command (v .side .kinds command)
 
--- so is a right write, whatever the word
+-- so is a right write, whatever the word; a bare one is answered 4
 abbrev pub WriteByRow : Type 0
-WriteByRow = (v : Visit) (command word : ℕ) → Heard v → VisitWrites v command word → visitAnswer v ≡ writeAnswer (v .side .kinds command)
+WriteByRow =
+    (v : Visit) (command word : ℕ) (checked : Bool) → Heard v → VisitWrites v command word checked
+    → visitAnswer v ≡ cond (bare (v .side) checked) 4 (writeAnswer (v .side .kinds command))
 
 -- with the 256 answers of a table computed, each command's is the one at its place
 abbrev pub ReadInRows : Type 0
@@ -75,8 +77,8 @@ ReadInRows =
 
 abbrev pub WriteInRows : Type 0
 WriteInRows =
-    (v : Visit) (command word : ℕ) (rows : List ℕ) → valuesBelow 256 (λ n. writeAnswer (v .side .kinds n)) ≡ rows
-    → command < 256 → Heard v → VisitWrites v command word → visitAnswer v ≡ getD rows command 0
+    (v : Visit) (command word : ℕ) (checked : Bool) (rows : List ℕ) → valuesBelow 256 (λ n. writeAnswer (v .side .kinds n)) ≡ rows
+    → command < 256 → Heard v → VisitWrites v command word checked → visitAnswer v ≡ cond (bare (v .side) checked) 4 (getD rows command 0)
 
 -- ---- served replies
 
@@ -90,16 +92,20 @@ ServedReply =
 abbrev pub ExchangePasses : Type 0
 ExchangePasses = (v : Visit) (command : ℕ) → VisitReads v command → served (visitAnswer v) ≡ true → Right (visitExchange v)
 
--- it has the length of the command's row, and no optional command is served, if no block is longer than 32 bytes
+-- where the row is a block, what is shown of it has 1 to 33 bytes: a count and up to 32 bytes, or bytes alone
+abbrev pub BlockFits : Side → ℕ → Type 0
+BlockFits d command = d .kinds command ≡ Block → (1 ≤ length (d .block command)) × (length (d .block command) ≤ 33)
+
+-- it has the length of the command's row, and no optional command is served
 abbrev pub ExchangeLength : Type 0
 ExchangeLength =
-    (v : Visit) (command : ℕ) → VisitReads v command → served (visitAnswer v) ≡ true → length (v .side .block command) ≤ 32
+    (v : Visit) (command : ℕ) → VisitReads v command → served (visitAnswer v) ≡ true → BlockFits (v .side) command
     → (v .side .kinds command ≡ Optional → ⊥) × Lengths (v .side .kinds command) (length (visitExchange v))
 
 -- and the exchange check accepts it
 abbrev pub ExchangeAccepted : Type 0
 ExchangeAccepted =
-    (v : Visit) (command : ℕ) → VisitReads v command → served (visitAnswer v) ≡ true → length (v .side .block command) ≤ 32 → Accepts (visitExchange v)
+    (v : Visit) (command : ℕ) → VisitReads v command → served (visitAnswer v) ≡ true → BlockFits (v .side) command → Accepts (visitExchange v)
 
 -- ---- exchanges
 
@@ -112,7 +118,6 @@ pub record VisitExchanged (v : Visit) : Type 0 where
   pub a-byte : command < 256
   pub word : v .side .word command < 65536
   pub block : Bytes (v .side .block command)
-  pub short : length (v .side .block command) ≤ 32
 
 -- two different exchanges of one length
 abbrev pub ExchangesApart : Type 0

@@ -18,7 +18,7 @@ use Rattle.rooms.specs.Rooms.{Bytes}
 use Rattle.pec_laws.proofs.Theorems.{misheard, four-bits, even-bits, no-burst, two-bits-to-37}
 use Rattle.frame.specs.Transactions.{readBytes, withPec, wordBody, blockBody, replyOf}
 use Rattle.frame.proofs.Replies.{reply-length}
-use Rattle.frame_laws.specs.Exchanges.{exchangeOf, AcceptsRight, ExchangeRight, WordExchange, BlockExchange, WordBack, TwoExchanges, CommandMisheard}
+use Rattle.frame_laws.specs.Exchanges.{exchangeOf, AcceptsRight, ExchangeRight, WordExchange, BodyExchange, BlockExchange, WordBack, TwoExchanges, CommandMisheard}
 
 -- ---- every reply is right
 
@@ -58,10 +58,13 @@ pub word-exchange : WordExchange
 unfolding replyOf
 word-exchange address command w = refl
 
+-- one of any body has 4 more than it
+pub body-exchange : BodyExchange
+body-exchange address command body = let l = reply-length (readBytes address command) body in omega (arith, l)
+
 -- a block exchange 5 to 37
 pub block-exchange : BlockExchange
-block-exchange address command text h =
-    let l = reply-length (readBytes address command) (blockBody text) in (omega (arith, l), omega (arith, l))
+block-exchange address command body h k = let l = body-exchange address command body in (omega (arith, l, h), omega (arith, l, k))
 
 -- ---- a reply tells what it carries
 

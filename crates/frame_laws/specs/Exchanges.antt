@@ -10,7 +10,7 @@ use Rattle.words.specs.Words.{joined}
 use Rattle.pec.specs.Messages.{Right, exchangeCheck, bitsApart}
 use Rattle.pec_laws.specs.Places.{Apart}
 use Rattle.rooms.specs.Rooms.{Bytes}
-use Rattle.frame.specs.Transactions.{readBytes, wordBody, blockBody, replyOf}
+use Rattle.frame.specs.Transactions.{readBytes, wordBody, replyOf}
 
 -- a reader's exchange is what it sent followed by what it heard
 abbrev pub exchangeOf : List ℕ → List ℕ → List ℕ
@@ -32,12 +32,15 @@ ExchangeRight = (request body : List ℕ) → Right (exchangeOf request body)
 abbrev pub WordExchange : Type 0
 WordExchange = (address command word : ℕ) → length (exchangeOf (readBytes address command) (wordBody word)) ≡ 6
 
--- and a block exchange 5 to 37
+-- one of any body has 4 bytes more
+abbrev pub BodyExchange : Type 0
+BodyExchange = (address command : ℕ) (body : List ℕ) → length (exchangeOf (readBytes address command) body) ≡ length body + 4
+
+-- and a block exchange, of a body of 1 to 33 bytes, 5 to 37
 abbrev pub BlockExchange : Type 0
 BlockExchange =
-    (address command : ℕ) (text : List ℕ) → length text ≤ 32
-    → (5 ≤ length (exchangeOf (readBytes address command) (blockBody text)))
-    × (length (exchangeOf (readBytes address command) (blockBody text)) ≤ 37)
+    (address command : ℕ) (body : List ℕ) → 1 ≤ length body → length body ≤ 33
+    → (5 ≤ length (exchangeOf (readBytes address command) body)) × (length (exchangeOf (readBytes address command) body) ≤ 37)
 
 -- a word reply's first two bytes, low byte first, are the word
 abbrev pub WordBack : Type 0
