@@ -1,4 +1,5 @@
-/* The state in a lent area, part by part, as a firmware keeps it over the winter; and the charger's in its own. */
+/* The state in a lent area, part by part, as a firmware keeps it over the winter; the charger's and the thirteen-cell
+ * pack's in their own. */
 #include "inside.h"
 
 /* The number that so many bytes stand for, low byte first. */
@@ -339,5 +340,90 @@ int sb2_area_charger_transact(uint8_t *area, size_t area_length, bool read, stru
     int answer = sb2_charger_transact(&charger, read, message, room, room_length, length);
     if (answer == SB2_SERVED && !read)
         sb2_area_charger_store(&charger, area);
+    return answer;
+}
+
+/* ---- the thirteen-cell pack's area */
+
+enum { THIRTEEN_SETTINGS_AT = 1, THIRTEEN_LATEST_AT = 7, CELLS_AT = 17, THIRTEEN_TANK_AT = 43, BIT_4_AT = 53,
+       THIRTEEN_RECENT_AT = 54 };
+
+bool sb2_area_thirteen_load(struct sb2_bytes area, struct sb2_thirteen *pack)
+{
+    if (area.length != SB2_THIRTEEN_AREA || area.at[BIT_4_AT] > 1)
+        return false;
+    const uint8_t *settings = area.at + THIRTEEN_SETTINGS_AT, *cells = area.at + CELLS_AT;
+    const uint8_t *tank = area.at + THIRTEEN_TANK_AT;
+    pack->error_code = area.at[0];
+    pack->design_capacity = word(&settings);
+    pack->design_voltage = word(&settings);
+    pack->state_of_health = word(&settings);
+    load_latest(area.at + THIRTEEN_LATEST_AT, &pack->latest);
+    for (size_t i = 0; i < SB2_CELLS; i++)
+        pack->cells[i] = word(&cells);
+    pack->charge = number(&tank, 8);
+    pack->full_capacity = word(&tank);
+    pack->fully_discharged = area.at[BIT_4_AT] == 1;
+    load_recent(area.at + THIRTEEN_RECENT_AT, &pack->minute);
+    return true;
+}
+
+void sb2_area_thirteen_store(const struct sb2_thirteen *pack, uint8_t area[SB2_THIRTEEN_AREA])
+{
+    uint8_t *settings = area + THIRTEEN_SETTINGS_AT, *cells = area + CELLS_AT, *tank = area + THIRTEEN_TANK_AT;
+    area[0] = (uint8_t)(pack->error_code & 0xFF);
+    put_word(&settings, pack->design_capacity);
+    put_word(&settings, pack->design_voltage);
+    put_word(&settings, pack->state_of_health);
+    store_latest(area + THIRTEEN_LATEST_AT, &pack->latest);
+    for (size_t i = 0; i < SB2_CELLS; i++)
+        put_word(&cells, pack->cells[i]);
+    put(&tank, 8, pack->charge);
+    put_word(&tank, pack->full_capacity);
+    area[BIT_4_AT] = pack->fully_discharged;
+    store_recent(area + THIRTEEN_RECENT_AT, &pack->minute);
+}
+
+int sb2_area_thirteen_set_up(uint8_t *area, size_t area_length, const struct sb2_thirteen_set_up *in)
+{
+    struct sb2_thirteen pack;
+    if (area_length != SB2_THIRTEEN_AREA)
+        return SB2_NOT_SOUND;
+    int answer = sb2_thirteen_set_up(&pack, in);
+    if (answer == SB2_SERVED)
+        sb2_area_thirteen_store(&pack, area);
+    return answer;
+}
+
+bool sb2_area_thirteen_sound(struct sb2_bytes area)
+{
+    struct sb2_thirteen pack;
+    return sb2_area_thirteen_load(area, &pack) && sb2_thirteen_sound(&pack);
+}
+
+int sb2_area_thirteen_sample(uint8_t *area, size_t area_length, const struct sb2_sample *sample,
+                             const uint16_t cells[SB2_CELLS])
+{
+    struct sb2_thirteen pack;
+    struct sb2_bytes lent = {area, area_length};
+    if (!sb2_area_thirteen_load(lent, &pack))
+        return SB2_NOT_SOUND;
+    int answer = sb2_thirteen_sample(&pack, sample, cells);
+    if (answer == SB2_SERVED)
+        sb2_area_thirteen_store(&pack, area);
+    return answer;
+}
+
+int sb2_area_thirteen_transact(uint8_t *area, size_t area_length, bool read, struct sb2_bytes message, uint8_t *room,
+                               size_t room_length, size_t *length)
+{
+    struct sb2_thirteen pack;
+    struct sb2_bytes lent = {area, area_length};
+    *length = 0;
+    if (!sb2_area_thirteen_load(lent, &pack))
+        return SB2_NOT_SOUND;
+    int answer = sb2_thirteen_transact(&pack, read, message, room, room_length, length);
+    if (answer > SB2_NOT_FOR_PACK || answer == SB2_SERVED)
+        area[0] = (uint8_t)pack.error_code;
     return answer;
 }

@@ -48,7 +48,7 @@ static int judge(bool read, struct sb2_bytes message, struct sb2_bytes service, 
 }
 
 /* The error code that an answer leaves, `before` where it leaves it as it was (rule: Answer numbers). */
-static uint32_t error_left(int answer, uint32_t before)
+uint32_t sb2_error_left(int answer, uint32_t before)
 {
     switch (answer) {
     case SB2_SERVED: return 0;
@@ -103,7 +103,7 @@ static size_t put_block(uint8_t command, struct sb2_bytes service, struct sb2_by
 }
 
 /* Puts a word, low byte first (rule: Transactions). */
-static size_t put_word(uint16_t word, uint8_t *room)
+size_t sb2_put_word(uint16_t word, uint8_t *room)
 {
     room[0] = (uint8_t)(word & 0xFF);
     room[1] = (uint8_t)(word >> 8);
@@ -111,7 +111,7 @@ static size_t put_word(uint16_t word, uint8_t *room)
 }
 
 /* Puts the PEC over request and reply behind the reply (rule: Transactions). */
-static size_t put_pec(struct sb2_bytes message, uint8_t *room, size_t place)
+size_t sb2_put_pec(struct sb2_bytes message, uint8_t *room, size_t place)
 {
     uint8_t exchange[SB2_MESSAGE_MOST];
     memcpy(exchange, message.at, 3);
@@ -128,11 +128,11 @@ static int serve_read(const struct sb2_state *s, struct sb2_bytes message, struc
 {
     uint8_t command = message.at[1];
     if (sb2_kind_of(command) == SB2_KIND_READ_BLOCK) {
-        *length = put_pec(message, room, put_block(command, service, factory, room));
+        *length = sb2_put_pec(message, room, put_block(command, service, factory, room));
         return SB2_SERVED;
     }
     struct sb2_shown shown = sb2_register(s, command);
-    *length = put_pec(message, room, put_word(shown.word, room));
+    *length = sb2_put_pec(message, room, sb2_put_word(shown.word, room));
     return shown.cut_off ? SB2_OVERFLOW : SB2_SERVED;
 }
 
@@ -150,6 +150,6 @@ int sb2_transact(struct sb2_state *state, bool read, struct sb2_bytes message, s
         answer = serve_read(state, message, service, factory, room, length);
     else if (answer == SB2_SERVED)
         write_word(state, message.at[1], (uint16_t)(message.at[2] | message.at[3] << 8));
-    state->error_code = error_left(answer, state->error_code);
+    state->error_code = sb2_error_left(answer, state->error_code);
     return answer;
 }

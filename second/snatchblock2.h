@@ -1,10 +1,10 @@
-/* A second, separately written form of the battery pack's rules and of the
- * charger's, in plain C11.
+/* A second, separately written form of the rules of the battery pack, of the
+ * charger and of the thirteen-cell pack, in plain C11.
  *
  * It is written from document 01, the requests of document 02, the Smart Battery
- * Data Specification 1.1 and source document 000, to be run beside the proved
- * library and compared with it; README.md says which few points it shares with
- * that library.
+ * Data Specification 1.1 and source documents 000 and 001, to be run beside the
+ * proved library and compared with it; README.md says which few points it shares
+ * with that library.
  * "Rule:" in a comment names the section of document 01, or the request, that a
  * function carries out.
  *
@@ -291,6 +291,65 @@ int sb2_area_charger_current(struct sb2_bytes area, uint16_t *current);
 int sb2_area_charger_sample(uint8_t *area, size_t area_length, const struct sb2_sample *sample);
 int sb2_area_charger_transact(uint8_t *area, size_t area_length, bool read, struct sb2_bytes message, uint8_t *room,
                               size_t room_length, size_t *length);
+
+/* ---- the thirteen-cell pack */
+
+enum { SB2_CELLS = 13, SB2_THIRTEEN_AREA = 301 };
+
+/* The pack of source document 001; any content is allowed, and only some is sound. */
+struct sb2_thirteen {
+    uint32_t error_code;      /* which no command shows */
+    uint16_t design_capacity; /* mAh */
+    uint16_t design_voltage;  /* mV */
+    uint16_t state_of_health; /* percent */
+    struct sb2_sample latest;
+    uint16_t cells[SB2_CELLS]; /* mV, of the latest sample too */
+    uint64_t charge;           /* mA·ms */
+    uint16_t full_capacity;    /* mAh, as set up */
+    bool fully_discharged;     /* bit 4 of its status */
+    struct sb2_minute minute;
+};
+
+/* What its set-up takes. */
+struct sb2_thirteen_set_up {
+    uint16_t design_capacity;
+    uint16_t full_capacity;
+    uint16_t remaining_capacity;
+    uint16_t design_voltage;
+    uint16_t state_of_health;
+    struct sb2_sample first;
+    uint16_t cells[SB2_CELLS];
+};
+
+/* Makes a state: answers 0, or 11 with the all-zero state (rules: Answer numbers, 11; R-10). */
+int sb2_thirteen_set_up(struct sb2_thirteen *pack, const struct sb2_thirteen_set_up *in);
+
+/* Tells whether it is sound (rules: Answer numbers, last paragraph; R-2; R-10). */
+bool sb2_thirteen_sound(const struct sb2_thirteen *pack);
+
+/* Takes a sample and the cells' voltages: answers 0 or 1 (rules: Clock and broadcasts; R-2; R-10). */
+int sb2_thirteen_sample(struct sb2_thirteen *pack, const struct sb2_sample *sample, const uint16_t cells[SB2_CELLS]);
+
+/* Carries out one transaction: answers 0 to 8 or 10, no write 0; *length is the reply's, 3 for a word, 27 for F1, 0 if
+ * there is none (rules: Transactions; R-6; R-10). `read` is the driver's mark. */
+int sb2_thirteen_transact(struct sb2_thirteen *pack, bool read, struct sb2_bytes message, uint8_t *room,
+                          size_t room_length, size_t *length);
+
+/* It in an area of 301 bytes, every number low byte first, a flag 0 or 1: the error code, one byte; design capacity,
+ * design voltage and state of health; the latest sample as in the pack's area; the cells; charge, eight bytes; full
+ * capacity; the flag of bit 4; the minute as in the pack's area. Loading is false, and loads nothing, for another size
+ * or a flag byte over 1; what is stored must fit, as with sb2_area_store. */
+bool sb2_area_thirteen_load(struct sb2_bytes area, struct sb2_thirteen *pack);
+void sb2_area_thirteen_store(const struct sb2_thirteen *pack, uint8_t area[SB2_THIRTEEN_AREA]);
+
+/* The four entries over it. Bytes that are no area answer 1; set-up and a sample store all if served, a transaction the
+ * first byte, the error code, unless it answers 1 to 3. */
+int sb2_area_thirteen_set_up(uint8_t *area, size_t area_length, const struct sb2_thirteen_set_up *in);
+bool sb2_area_thirteen_sound(struct sb2_bytes area);
+int sb2_area_thirteen_sample(uint8_t *area, size_t area_length, const struct sb2_sample *sample,
+                             const uint16_t cells[SB2_CELLS]);
+int sb2_area_thirteen_transact(uint8_t *area, size_t area_length, bool read, struct sb2_bytes message, uint8_t *room,
+                               size_t room_length, size_t *length);
 
 /* ---- check bytes */
 

@@ -141,7 +141,8 @@ static void lend_area(const uint8_t *content, size_t length)
 
 /* ---- the call under way, for a report */
 
-enum area_use { NO_AREA, READS_AREA, WRITES_AREA, WRITES_SERVED }; /* the last has no error code to leave */
+/* The last but one has no error code to leave, the last has nothing else. */
+enum area_use { NO_AREA, READS_AREA, WRITES_AREA, WRITES_SERVED, WRITES_CODE };
 
 static struct {
     const char *entry;
@@ -221,14 +222,14 @@ static bool stays_behind(const struct both *b, size_t first)
 }
 
 /* The bytes of the area that document 01 lets an answer change: past 3 the error code alone, of 10 too, for a read; the
- * charger has none. */
+ * charger has none, and no transaction of the thirteen-cell pack changes more. */
 static size_t area_may_change(unsigned answer)
 {
     if (call.area < WRITES_AREA)
         return 0;
     if (answer == SB2_SERVED)
-        return area.length;
-    return call.area == WRITES_AREA && answer > SB2_NOT_FOR_PACK && answer <= SB2_OVERFLOW;
+        return call.area == WRITES_CODE ? 1 : area.length;
+    return call.area != WRITES_SERVED && answer > SB2_NOT_FOR_PACK && answer <= SB2_OVERFLOW;
 }
 
 /* Every entry with a room answers in the low byte and has the bytes written above it, none where it refused. An edit
@@ -281,7 +282,7 @@ enum { ANSWERS = 21 };
 enum entry {
     SET_UP, SOUND, SAMPLE, TRANSACT, PEC, EXCHANGE, BITS, WRITE_KEY, READ_KEY, UNESCAPE, WRITE_SHEET, IS_SHEET, BLOCK,
     SET_BODY, REMOVE_BODY, OPEN, STEP, SHELF, SHELF_FROM, CHARGER_SET_UP, CHARGER_SOUND, CHARGER_SAMPLE,
-    CHARGER_TRANSACT, CHARGER_CURRENT, ENTRIES
+    CHARGER_TRANSACT, CHARGER_CURRENT, THIRTEEN_SET_UP, THIRTEEN_SOUND, THIRTEEN_SAMPLE, THIRTEEN_TRANSACT, ENTRIES
 };
 static const struct {
     const char *name;
@@ -311,8 +312,16 @@ static const struct {
     [CHARGER_SAMPLE] = {"charger_sample", 3},
     [CHARGER_TRANSACT] = {"charger_transact", 0x17F},
     [CHARGER_CURRENT] = {"charger_current", 3},
+    [THIRTEEN_SET_UP] = {"thirteen_set_up", 1u << 0 | 1u << 1 | 1u << 11},
+    [THIRTEEN_SOUND] = {"thirteen_sound (0 false, 1 true)", 3},
+    [THIRTEEN_SAMPLE] = {"thirteen_sample", 3},
+    [THIRTEEN_TRANSACT] = {"thirteen_transact", 0x5FF},
 };
 static uint64_t came[ENTRIES][ANSWERS];
+
+/* Of the thirteen-cell pack: the borders of its status, the ways in which its area is bent, and the first that bends a
+ * total. */
+enum { T_EDGES = 11, T_BEND_TOTALS = 24, T_BENDS = T_BEND_TOTALS + 8 };
 
 /* Classes beside the answers. Those of a mode stand twice, in mAh and in power mode. */
 enum other {
@@ -350,7 +359,15 @@ enum other {
     E_SET, E_REMOVED = E_SET + 5 * 4, E_ABSENT = E_REMOVED + 4, E_TAGS, E_BY = E_TAGS + 2 * 16 * 4, E_BODY = E_BY + 73,
     E_LONG = E_BODY + 33, E_TAG = E_LONG + 3, E_FULL = E_TAG + 2 * 3, E_OVER = E_FULL + 141, E_SERVED = E_OVER + 141,
     E_REFUSED = E_SERVED + 161, E_STATED = E_REFUSED + 161, E_CUT = E_STATED + 2 * 6, E_BENT = E_CUT + 2,
-    E_ORDER = E_BENT + 2, OTHERS = E_ORDER + 6
+    E_ORDER = E_BENT + 2, T_READ = E_ORDER + 6, T_COMMAND = T_READ + 22, T_WRITE = T_COMMAND + 256,
+    T_FOUR = T_WRITE + 256, T_WRONG = T_FOUR + 256, T_STATUS_SET = T_WRONG + 256, T_STATUS_CLEAR = T_STATUS_SET + 16,
+    T_EDGE = T_STATUS_CLEAR + 16, T_DEGREES = T_EDGE + 3 * T_EDGES, T_CURRENT = T_DEGREES + 18, T_VOLTAGE = T_CURRENT + 7,
+    T_CELL = T_VOLTAGE + 4, T_TIME = T_CELL + 13, T_TIME_BORDER = T_TIME + 6, T_MEAN = T_TIME_BORDER + 8,
+    T_PERCENT = T_MEAN + 2, T_STAYS = T_PERCENT + 4, T_SET_UP = T_STAYS + 3, T_CHARGE = T_SET_UP + 7,
+    T_BIT_4 = T_CHARGE + 5, T_DONE = T_BIT_4 + 6, T_KEPT = T_DONE + 7, T_GAP = T_KEPT + 3, T_WRAP = T_GAP + 8, T_BENT,
+    T_DAMAGED = T_BENT + T_BENDS, T_LENGTH = T_DAMAGED + 2, T_ROOM = T_LENGTH + 4 * 5, T_ADDRESS = T_ROOM + 2 * 41,
+    T_FORM = T_ADDRESS + 4, T_BOTH = T_FORM + 3, T_ALTERED = T_BOTH + 28, T_EXCHANGE = T_ALTERED + 4,
+    OTHERS = T_EXCHANGE + 5
 };
 static uint64_t other[OTHERS];
 
@@ -2828,7 +2845,7 @@ static uint16_t charger_word(uint8_t command)
 /* One to three altered bits of a message that has so many bytes. */
 static void alter(uint8_t *message, size_t length, uint32_t bits)
 {
-    uint8_t was[64];
+    uint8_t was[AREA_MOST];
     memcpy(was, message, length);
     while (bits > 0) {
         uint32_t place = below(8 * (uint32_t)length);
@@ -3126,11 +3143,875 @@ static void play_charger(void)
     play_joined();
 }
 
+/* ---- the thirteen-cell pack */
+
+/* Where its area keeps what. */
+enum { T_DESIGN_AT = 1, T_DESIGN_VOLTAGE_AT = 3, T_HEALTH_AT = 5, T_LATEST_AT = 7, T_COUNTER_AT = 13, T_CELLS_AT = 17,
+       T_CHARGE_AT = 43, T_FULL_AT = 51, T_FLAG_AT = 53, T_TOTALS_AT = 54, T_KEPT_AT = 294, T_BEGUN_MS_AT = 295,
+       T_BEGUN_AT = 297, CELL_BYTES = 2 * SB2_CELLS };
+static const uint8_t thirteen_served[22] = {0x08, 0x09, 0x0A, 0x0D, 0x11, 0x13, 0x16, 0x31, 0x32, 0x33, 0x34,
+                                            0x35, 0x36, 0x37, 0x38, 0x39, 0x3A, 0x3B, 0x3C, 0x3D, 0x4F, 0xF1};
+static const uint8_t thirteen_not_built[6] = {0x00, 0x80, 0x81, 0xA0, 0xA1, 0xA2};
+static uint8_t thirteen_area[AREA_MOST]; /* between calls */
+
+static struct sb2_bytes thirteen_bytes(void)
+{
+    return bytes_of(thirteen_area, SB2_THIRTEEN_AREA);
+}
+
+static void put_thirteen(size_t at, size_t bytes, uint64_t value)
+{
+    for (size_t i = 0; i < bytes; i++)
+        thirteen_area[at + i] = (uint8_t)(value >> 8 * i);
+}
+
+static uint64_t thirteen_number(size_t at, size_t bytes)
+{
+    uint64_t value = 0;
+    for (size_t i = 0; i < bytes; i++)
+        value |= (uint64_t)thirteen_area[at + i] << 8 * i;
+    return value;
+}
+
+static struct sb2_sample thirteen_latest(void)
+{
+    return (struct sb2_sample){(uint16_t)thirteen_number(T_LATEST_AT, 2), (int16_t)thirteen_number(T_LATEST_AT + 2, 2),
+                               (uint16_t)thirteen_number(T_LATEST_AT + 4, 2), (uint32_t)thirteen_number(T_COUNTER_AT, 4)};
+}
+
+static uint64_t thirteen_full(void)
+{
+    return thirteen_number(T_FULL_AT, 2) * SB2_MS_PER_HOUR;
+}
+
+static void keep_thirteen(void)
+{
+    if (area.length == SB2_THIRTEEN_AREA)
+        memcpy(thirteen_area, area.s, SB2_THIRTEEN_AREA);
+}
+
+/* Mostly the right size, at times any of 0 to 400. */
+static size_t thirteen_size(void)
+{
+    return one_in(40) ? below(401) : SB2_THIRTEEN_AREA;
+}
+
+/* An area of another size came to one of the four entries. */
+static void note_thirteen_size(unsigned entry, size_t length)
+{
+    static const size_t sizes[4] = {0, SB2_THIRTEEN_AREA - 1, SB2_THIRTEEN_AREA + 1, SNATCHBLOCK_AREA};
+    unsigned class = 0;
+    while (class < 4 && length != sizes[class])
+        class++;
+    if (length != SB2_THIRTEEN_AREA)
+        other[T_LENGTH + 5 * entry + class]++;
+}
+
+/* Voltages of the cells, at borders too. */
+static void some_cells(uint16_t cells[SB2_CELLS])
+{
+    for (size_t i = 0; i < SB2_CELLS; i++)
+        cells[i] = one_in(2) ? (uint16_t)(3000 + below(1201)) : some_word();
+}
+
+/* They are lent for reading, and end where a page begins that can't be read. */
+static const uint16_t *lend_cells(const uint16_t cells[SB2_CELLS])
+{
+    const void *at = lend(0, (const uint8_t *)cells, CELL_BYTES).at;
+    return at;
+}
+
+/* Why a set-up was refused, where one reason alone stands; or which charge it began with. */
+static void note_thirteen_set_up(const struct sb2_thirteen_set_up *in, uint32_t answer)
+{
+    const bool reasons[4] = {in->design_capacity == 0, in->design_voltage == 0, in->full_capacity == 0,
+                             in->remaining_capacity > in->full_capacity};
+    unsigned count = 0, last = 0;
+    for (unsigned i = 0; i < 4; i++)
+        if (reasons[i]) {
+            count++;
+            last = i;
+        }
+    if (answer == SB2_NOT_SOUND)
+        return;
+    expect((answer == SB2_BAD_SET_UP) == (count > 0), "11");
+    if (count == 1)
+        other[T_SET_UP + 3 + last]++;
+    else if (count == 0)
+        other[T_SET_UP + (in->remaining_capacity == 0 ? 0 : in->remaining_capacity == in->full_capacity ? 2 : 1)]++;
+}
+
+static void play_thirteen_set_up(const struct sb2_thirteen_set_up *in, size_t length)
+{
+    if (length == SB2_THIRTEEN_AREA)
+        fill(thirteen_area, length);
+    lend_area(thirteen_area, length);
+    const uint16_t *cells = lend_cells(in->cells);
+    begin("thirteen_set_up (cells)", 1, WRITES_AREA, false);
+    note(in->design_capacity), note(in->full_capacity), note(in->remaining_capacity), note(in->design_voltage);
+    note(in->state_of_health), note_sample(in->first);
+    uint32_t proved = snatchblock_thirteen_set_up(area.p, length, in->design_capacity, in->full_capacity,
+                                                  in->remaining_capacity, in->design_voltage, in->state_of_health,
+                                                  in->first.voltage, in->first.current, in->first.temperature,
+                                                  in->first.counter, cells);
+    uint32_t second = (uint32_t)sb2_area_thirteen_set_up(area.s, length, in);
+    compare(proved, second);
+    came_up(THIRTEEN_SET_UP, second);
+    note_thirteen_size(0, length);
+    note_thirteen_set_up(in, second);
+    keep_thirteen();
+}
+
+static bool play_thirteen_sound(size_t length)
+{
+    lend_area(thirteen_area, length);
+    begin("thirteen_sound", 0, READS_AREA, false);
+    bool proved = snatchblock_thirteen_sound(area.p, length);
+    bool second = sb2_area_thirteen_sound(bytes_of(area.s, length));
+    compare(proved, second);
+    came_up(THIRTEEN_SOUND, second);
+    note_thirteen_size(1, length);
+    return second;
+}
+
+/* ---- its samples */
+
+/* What a served sample leaves as it was, and what it brings. */
+static void check_thirteen_sample(const uint16_t cells[SB2_CELLS])
+{
+    expect(memcmp(area.s, thirteen_area, T_LATEST_AT) == 0, "code and settings");
+    expect(memcmp(area.s + T_FULL_AT, thirteen_area + T_FULL_AT, 2) == 0, "full");
+    for (size_t i = 0; i < SB2_CELLS; i++)
+        expect((area.s[T_CELLS_AT + 2 * i] | area.s[T_CELLS_AT + 2 * i + 1] << 8) == cells[i], "cells");
+}
+
+/* Where a served sample brought the charge, and what bit 4 was before; the area still is the one before it. */
+static void note_thirteen_charge(const struct sb2_sample *sample, uint32_t elapsed)
+{
+    struct sb2_thirteen after;
+    (void)sb2_area_thirteen_load(bytes_of(area.s, SB2_THIRTEEN_AREA), &after);
+    int64_t full = (int64_t)thirteen_full();
+    int64_t sum = (int64_t)thirteen_number(T_CHARGE_AT, 8) + (int64_t)sample->current * elapsed;
+    other[T_CHARGE + (sum < 0 ? 0 : sum == 0 ? 1 : sum < full ? 2 : sum == full ? 3 : 4)]++;
+    expect(after.charge == (uint64_t)(sum < 0 ? 0 : sum > full ? full : sum), "charge");
+    unsigned rule = after.charge == 0 ? 0 : 100 * after.charge / (uint64_t)full < 20 ? 1 : 2;
+    other[T_BIT_4 + 3u * thirteen_area[T_FLAG_AT] + rule]++;
+    expect(after.fully_discharged == (rule == 0 || (rule == 1 && thirteen_area[T_FLAG_AT] == 1)), "bit 4");
+}
+
+/* How many seconds it completed, and how many are kept now. */
+static void note_thirteen_seconds(uint32_t elapsed)
+{
+    uint64_t done = (thirteen_number(T_BEGUN_MS_AT, 2) + elapsed) / 1000;
+    uint8_t kept = area.s[T_KEPT_AT];
+    other[T_DONE + (done < 2 ? done : done < 59 ? 2 : done < 62 ? done - 56 : 6)]++;
+    other[T_KEPT + (kept == 0 ? 0 : kept < SB2_SECONDS ? 1 : 2)]++;
+}
+
+static void play_thirteen_sample(struct sb2_sample sample, const uint16_t cells[SB2_CELLS], size_t length)
+{
+    uint32_t before = (uint32_t)thirteen_number(T_COUNTER_AT, 4), elapsed = sample.counter - before;
+    lend_area(thirteen_area, length);
+    const uint16_t *measured = lend_cells(cells);
+    begin("thirteen_sample (cells)", 1, WRITES_AREA, false);
+    note_sample(sample);
+    uint32_t proved = snatchblock_thirteen_sample(area.p, length, sample.voltage, sample.current, sample.temperature,
+                                                  sample.counter, measured);
+    uint32_t second = (uint32_t)sb2_area_thirteen_sample(area.s, length, &sample, measured);
+    compare(proved, second);
+    came_up(THIRTEEN_SAMPLE, second);
+    note_thirteen_size(2, length);
+    if (second == SB2_SERVED) {
+        check_thirteen_sample(cells);
+        note_thirteen_charge(&sample, elapsed);
+        note_thirteen_seconds(elapsed);
+        other[T_WRAP] += sample.counter < before;
+    }
+    keep_thirteen();
+}
+
+/* What is measured: any, or about the limits that the status looks at. */
+static struct sb2_sample thirteen_measured(uint32_t counter)
+{
+    static const uint16_t voltages[] = {39000, 51001, 54800}, temperatures[] = {2731, 3231, 3331};
+    static const int16_t currents[] = {-15000, -9, -1, 0, 1, 9, 99, 2000};
+    struct sb2_sample sample = {some_word(), some_current(), some_word(), counter};
+    if (!one_in(4))
+        sample.voltage = one_in(2) ? (uint16_t)(voltages[below(3)] - 1 + below(3)) : (uint16_t)(39000 + below(16000));
+    if (one_in(2))
+        sample.current = (int16_t)(currents[below(8)] - 1 + (int32_t)below(3));
+    if (!one_in(4))
+        sample.temperature = one_in(2) ? (uint16_t)(temperatures[below(3)] + below(2)) : (uint16_t)(2700 + below(700));
+    return sample;
+}
+
+static void play_thirteen_time(size_t length)
+{
+    static const uint32_t gaps[6] = {0, 1, 999, 1000, 60000, 61000};
+    unsigned class = one_in(2) ? 3 : below(8);
+    uint32_t before = (uint32_t)thirteen_number(T_COUNTER_AT, 4);
+    uint32_t gap = class == 7 ? 0u - before + below(1000) : 3600000u * (1 + below(1192)) + below(2000);
+    uint16_t cells[SB2_CELLS];
+    some_cells(cells);
+    bool served = length == SB2_THIRTEEN_AREA && sb2_area_thirteen_sound(thirteen_bytes());
+    play_thirteen_sample(thirteen_measured(before + (class < 6 ? gaps[class] : gap)), cells, length);
+    if (served)
+        other[T_GAP + class]++;
+}
+
+/* ---- its status: where each bit changes */
+
+enum quantity { MILLIVOLTS, MILLIAMPS, TENTH_KELVINS };
+static const struct {
+    unsigned bit;
+    enum quantity of;
+    int32_t border; /* where it is set */
+    bool above;     /* it is set above it too, else below */
+    int32_t least_current, most_current, least_voltage; /* what the bit wants beside it */
+} status_edges[T_EDGES] = {
+    {5, MILLIVOLTS, 51001, true, 1, 99, 0},
+    {5, MILLIAMPS, 1, true, -32768, 32767, 51001},
+    {5, MILLIAMPS, 99, false, -32768, 32767, 51001},
+    {6, MILLIAMPS, -1, false, -32768, 32767, 0},
+    {8, MILLIVOLTS, 39000, false, -32768, 32767, 0},
+    {9, MILLIVOLTS, 54800, true, -32768, 32767, 0},
+    {10, MILLIAMPS, 2000, true, -32768, 32767, 0},
+    {11, MILLIAMPS, -15000, false, -32768, 32767, 0},
+    {12, TENTH_KELVINS, 2731, false, -32768, 32767, 0},
+    {13, TENTH_KELVINS, 3232, true, 1, 32767, 0},
+    {13, TENTH_KELVINS, 3332, true, -32768, -1, 0},
+};
+
+static int32_t quantity_of(struct sb2_sample sample, enum quantity of)
+{
+    return of == MILLIVOLTS ? sample.voltage : of == MILLIAMPS ? sample.current : sample.temperature;
+}
+
+/* The word of a served read of 16, at the latest sample: at each border and one off it, on both sides. */
+static void note_thirteen_edges(struct sb2_sample latest, uint16_t word)
+{
+    for (size_t i = 0; i < T_EDGES; i++) {
+        int32_t apart = quantity_of(latest, status_edges[i].of) - status_edges[i].border;
+        if (apart < -1 || apart > 1 || latest.current < status_edges[i].least_current ||
+            latest.current > status_edges[i].most_current || latest.voltage < status_edges[i].least_voltage)
+            continue;
+        expect((word >> status_edges[i].bit & 1) == (apart == 0 || (apart > 0) == status_edges[i].above), "a bit at its border");
+        other[T_EDGE + 3 * i + (size_t)(apart + 1)]++;
+    }
+}
+
+/* Its bits; and the temperatures about the three limits, with the current below, at and above 0. */
+static void note_thirteen_status(uint16_t word)
+{
+    static const uint16_t degrees[6] = {2731, 2732, 3231, 3232, 3331, 3332};
+    struct sb2_sample latest = thirteen_latest();
+    for (unsigned bit = 0; bit < 16; bit++)
+        other[(word >> bit & 1 ? T_STATUS_SET : T_STATUS_CLEAR) + bit]++;
+    note_thirteen_edges(latest, word);
+    for (size_t i = 0; i < 6; i++)
+        if (latest.temperature == degrees[i])
+            other[T_DEGREES + 3 * i + (latest.current < 0 ? 0 : latest.current == 0 ? 1 : 2)]++;
+    if (latest.current == 0)
+        expect((word & 1 << 13) == 0, "bit 13 at rest");
+}
+
+/* ---- its transactions */
+
+/* The current that 13 looks at: the mean of the complete seconds or, with none, the latest. */
+static int64_t thirteen_mean(void)
+{
+    int64_t sum = 0, count = thirteen_area[T_KEPT_AT];
+    for (size_t place = 0; place < (size_t)count; place++)
+        sum += (int32_t)thirteen_number(T_TOTALS_AT + 4 * place, 4);
+    return count == 0 ? thirteen_latest().current : sum / (1000 * count);
+}
+
+/* Which of the three a time is; its minutes before the cap, where they are about it; what 13 was worked out from. */
+static void note_thirteen_time(uint8_t command, uint16_t word, int answer)
+{
+    unsigned which = command == 0x13;
+    int64_t rate = which ? thirteen_mean() : -(int64_t)thirteen_latest().current;
+    uint64_t remaining = thirteen_number(T_CHARGE_AT, 8) / SB2_MS_PER_HOUR;
+    uint64_t capacity = which ? thirteen_number(T_FULL_AT, 2) - remaining : remaining;
+    uint64_t before_cap = rate > 0 ? 60 * capacity / (uint64_t)rate : 0;
+    expect((answer == SB2_OVERFLOW) == (before_cap > 65534), "10");
+    other[T_TIME + 3 * which + time_case(word, answer)]++;
+    if (before_cap >= FIRST_BORDER && before_cap < FIRST_BORDER + TIME_BORDERS)
+        other[T_TIME_BORDER + TIME_BORDERS * which + before_cap - FIRST_BORDER]++;
+    if (which && thirteen_area[T_KEPT_AT] == 0)
+        other[T_MEAN]++;
+    else if (which && rate != thirteen_latest().current)
+        other[T_MEAN + 1]++;
+}
+
+/* 09 and 0A by what they were rounded from. */
+static void note_thirteen_tens(uint8_t command, uint16_t word)
+{
+    int32_t from = command == 0x09 ? thirteen_latest().voltage : thirteen_latest().current, size = from < 0 ? -from : from;
+    if (command == 0x09)
+        other[T_VOLTAGE + (from < 10 ? 0 : from == 65535 ? 3 : from % 10 == 0 ? 1 : 2)]++;
+    else if (size < 10)
+        other[T_CURRENT + (from < 0 ? 0 : from == 0 ? 1 : 2)]++;
+    else
+        other[T_CURRENT + (from == -32768 ? 5 : from == 32767 ? 6 : from < 0 ? 3 : 4)]++;
+    expect(word == (uint16_t)(from < 0 ? -(size / 10) : size / 10), "tens");
+}
+
+/* A cell's word, where no other cell has the same. */
+static void note_thirteen_cell(size_t cell, uint16_t word)
+{
+    expect(word == thirteen_number(T_CELLS_AT + 2 * cell, 2), "cell");
+    for (size_t i = 0; i < SB2_CELLS; i++)
+        if (i != cell && thirteen_number(T_CELLS_AT + 2 * i, 2) == word)
+            return;
+    other[T_CELL + cell]++;
+}
+
+static void note_thirteen_word(uint8_t command, uint16_t word, int answer)
+{
+    if (command == 0x11 || command == 0x13)
+        note_thirteen_time(command, word, answer);
+    else if (command == 0x09 || command == 0x0A)
+        note_thirteen_tens(command, word);
+    else if (command == 0x0D)
+        other[T_PERCENT + (word == 0 ? 0 : word < 20 ? 1 : word < 100 ? 2 : 3)]++;
+    else if (command == 0x16)
+        note_thirteen_status(word);
+    else if (command >= 0x31 && command <= 0x3D)
+        note_thirteen_cell(command - 0x31u, word);
+}
+
+/* A served read: its bytes are a word, or of F1 the area's own, and behind them is their PEC. */
+static void note_thirteen_read(uint8_t command, size_t sent, int answer)
+{
+    size_t which = 0;
+    while (thirteen_served[which] != command)
+        which++;
+    other[T_READ + which]++;
+    expect(sent == (command == 0xF1 ? CELL_BYTES + 1 : 3), "length");
+    if (command == 0xF1)
+        expect(memcmp(room.s, thirteen_area + T_CELLS_AT, CELL_BYTES) == 0, "cells");
+    else
+        note_thirteen_word(command, (uint16_t)(room.s[0] | room.s[1] << 8), answer);
+}
+
+static int thirteen_row(uint8_t command)
+{
+    if (memchr(thirteen_served, command, sizeof thirteen_served) != NULL)
+        return SB2_SERVED;
+    return memchr(thirteen_not_built, command, sizeof thirteen_not_built) != NULL ? SB2_NOT_BUILT : SB2_RESERVED;
+}
+
+/* Each two of the eight conditions that held at once; a form and a PEC, and two of 6, 7 and 8, never do. */
+static void note_thirteen_order(bool sound, bool read, struct sb2_bytes m)
+{
+    int row = m.length > 1 ? thirteen_row(m.at[1]) : -1;
+    bool accepted = true;
+    if (!read && m.length == 5)
+        (void)sb2_check_exchange(m, &accepted);
+    const bool holds[8] = {!sound, room.length < SB2_REPLY_ROOM, m.length == 0 || m.at[0] != 0x16,
+                           read ? m.length != 3 || m.at[2] != 0x17 : m.length != 5, !accepted, row == SB2_RESERVED,
+                           row == SB2_NOT_BUILT, row == SB2_SERVED && !read};
+    for (size_t i = 0, both = 0; i < 8; i++)
+        for (size_t j = i + 1; j < 8; j++, both++)
+            if (holds[i] && holds[j])
+                other[T_BOTH + both]++;
+}
+
+/* What a message was refused for, or that it was right but for its command or its room. */
+static void note_thirteen_message(int answer, bool read, struct sb2_bytes m)
+{
+    if (answer == SB2_NOT_FOR_PACK)
+        other[T_ADDRESS + (m.length == 0 ? 0 : m.at[0] == 0x12 ? 1 : m.at[0] == 0x17 ? 2 : 3)]++;
+    else if (answer == SB2_WRONG_FORM && !read && m.length == 4)
+        other[T_FOUR + m.at[1]]++;
+    else if (answer == SB2_WRONG_FORM)
+        other[T_FORM + (!read ? 2 : m.length == 3)]++;
+    else if (answer == SB2_WRONG_PEC)
+        other[T_WRONG + m.at[1]]++;
+    else if (answer == SB2_SERVED || answer > SB2_WRONG_PEC)
+        other[(read ? T_COMMAND : T_WRITE) + m.at[1]]++;
+    if (answer != SB2_NOT_SOUND && room.length <= 40)
+        other[T_ROOM + 41u * !read + room.length]++;
+}
+
+/* The code that the answer leaves; 1 to 3 leave it, be it another than 0. */
+static void check_thirteen_code(int answer, size_t length)
+{
+    static const uint8_t codes[11] = {0, 0, 0, 0, 6, 7, 2, 3, 4, 7, 5};
+    if (answer >= SB2_NOT_SOUND && answer <= SB2_NOT_FOR_PACK)
+        other[T_STAYS + answer - SB2_NOT_SOUND] += length > 0 && thirteen_area[0] > 0;
+    else
+        expect(area.s[0] == codes[answer], "error code");
+}
+
+static int play_thirteen_message(const uint8_t *message, size_t message_length, bool read, size_t length,
+                                 size_t room_length)
+{
+    bool sound = length == SB2_THIRTEEN_AREA && sb2_area_thirteen_sound(thirteen_bytes());
+    size_t sent;
+    lend_area(thirteen_area, length);
+    lend_room(room_length);
+    struct sb2_bytes m = lend(0, message, message_length);
+    begin("thirteen_transact", 1, WRITES_CODE, true);
+    note(read);
+    uint32_t proved = snatchblock_thirteen_transact(area.p, length, read, m.at, m.length, room.p, room.length);
+    int answer = sb2_area_thirteen_transact(area.s, length, read, m, room.s, room.length, &sent);
+    compare(proved, (uint32_t)answer | (uint32_t)sent << 8);
+    came_up(THIRTEEN_TRANSACT, (uint32_t)answer);
+    note_thirteen_size(3, length);
+    note_thirteen_order(sound, read, m);
+    note_thirteen_message(answer, read, m);
+    check_thirteen_code(answer, length);
+    if (answer == SB2_SERVED || answer == SB2_OVERFLOW)
+        note_thirteen_read(message[1], sent, answer);
+    keep_thirteen();
+    return answer;
+}
+
+/* Reads, or writes with PEC, whole, in the least room. */
+static void play_thirteen_read(uint8_t command)
+{
+    const uint8_t ask[3] = {0x16, command, 0x17};
+    (void)play_thirteen_message(ask, 3, true, SB2_THIRTEEN_AREA, SB2_REPLY_ROOM);
+}
+
+static void put_write(uint8_t message[5], uint8_t command, uint16_t word)
+{
+    const uint8_t four[4] = {0x16, command, (uint8_t)(word & 0xFF), (uint8_t)(word >> 8)};
+    memcpy(message, four, 4);
+    message[4] = sb2_pec(bytes_of(four, 4));
+}
+
+static uint8_t thirteen_command(void)
+{
+    if (one_in(6))
+        return (uint8_t)draw();
+    return one_in(5) ? thirteen_not_built[below(6)] : thirteen_served[below(22)];
+}
+
+/* A message with its mark, right or damaged; gives its length. */
+static size_t some_thirteen_message(uint8_t at[64], bool *read)
+{
+    static const uint8_t addresses[] = {0x12, 0x17, 0x14, 0x10};
+    size_t length = 3;
+    *read = !one_in(4);
+    put_write(at, thirteen_command(), some_word());
+    if (*read)
+        at[2] = 0x17;
+    else
+        length = one_in(4) ? 4 : 5;
+    switch (below(24)) {
+    case 0: alter(at, length, 1 + below(3)); break;
+    case 1: *read = !*read; break;
+    case 2: length = below((uint32_t)length); break;
+    case 3: fill(at + length, 40), length += below(36); break;
+    case 4: fill(at, 64), length = below(65); break;
+    case 5: at[0] = one_in(4) ? (uint8_t)draw() : addresses[below(4)]; break;
+    case 6: at[length - 1] = (uint8_t)draw(); break;
+    default: break;
+    }
+    return length;
+}
+
+static void play_thirteen_transact(size_t length)
+{
+    uint8_t message[64];
+    bool read;
+    size_t message_length = some_thirteen_message(message, &read);
+    size_t room_length = one_in(8) ? below(41) : one_in(12) ? below(ROOM_MOST + 1) : SB2_REPLY_ROOM;
+    (void)play_thirteen_message(message, message_length, read, length, room_length);
+}
+
+/* ---- its life */
+
+/* What set-up may be given; likely, what it serves. */
+static struct sb2_thirteen_set_up some_thirteen_set_up(bool likely)
+{
+    struct sb2_thirteen_set_up in = {.design_capacity = some_word(), .full_capacity = some_word(),
+                                     .remaining_capacity = some_word(), .design_voltage = some_word(),
+                                     .state_of_health = one_in(2) ? (uint16_t)below(101) : some_word()};
+    in.first = thirteen_measured(one_in(4) ? 0xFFFFFFFFu - below(100000) : (uint32_t)draw());
+    some_cells(in.cells);
+    if (likely) {
+        in.design_capacity |= 1;
+        in.full_capacity |= 1;
+        in.design_voltage |= 1;
+        in.remaining_capacity = one_in(4) ? 0 : one_in(4) ? in.full_capacity : (uint16_t)below(in.full_capacity + 1u);
+    }
+    return in;
+}
+
+static void play_likely_thirteen(void)
+{
+    const struct sb2_thirteen_set_up in = some_thirteen_set_up(true);
+    play_thirteen_set_up(&in, SB2_THIRTEEN_AREA);
+}
+
+static void play_thirteen_life(void)
+{
+    play_likely_thirteen();
+    for (uint32_t left = 20 + below(60); left > 0; left--)
+        if (one_in(4))
+            play_thirteen_time(thirteen_size());
+        else
+            play_thirteen_transact(thirteen_size());
+    (void)play_thirteen_sound(thirteen_size());
+}
+
+/* A run of samples, a current staying for one or for many, and the words that show it after each. */
+static void play_thirteen_run(void)
+{
+    static const uint8_t commands[4] = {0x0D, 0x11, 0x13, 0x16};
+    uint32_t stay = one_in(2) ? 1 : 60, step = one_in(2) ? 1000 : 1 + below(2500);
+    uint16_t cells[SB2_CELLS];
+    play_likely_thirteen();
+    if (one_in(3))
+        put_thirteen(T_COUNTER_AT, 4, 0u - below(20000));
+    struct sb2_sample sample = thirteen_measured(0);
+    for (uint32_t left = 1 + below(one_in(6) ? 150 : 15); left > 0; left--) {
+        if (one_in(stay))
+            sample.current = run_current();
+        sample.counter = (uint32_t)thirteen_number(T_COUNTER_AT, 4) + (one_in(8) ? some_elapsed() : step);
+        some_cells(cells);
+        play_thirteen_sample(sample, cells, SB2_THIRTEEN_AREA);
+        play_thirteen_read(commands[below(4)]);
+    }
+}
+
+/* A charge that a sample brings to 0 or to full exactly, or one mA·ms off it. */
+static void play_thirteen_ends(void)
+{
+    uint16_t cells[SB2_CELLS];
+    for (int fill_up = 0; fill_up < 2; fill_up++)
+        for (uint64_t apart = 0; apart < 3; apart++) {
+            struct sb2_sample sample = thirteen_measured(0);
+            uint32_t elapsed = 1000 + below(5000);
+            int32_t current = 1 + (int32_t)below(3000);
+            play_likely_thirteen();
+            put_thirteen(T_FULL_AT, 2, 6 + below(65530)); /* 3,000 mA for 6 s are 5 mAh */
+            uint64_t flows = (uint64_t)current * elapsed - 1 + apart;
+            put_thirteen(T_CHARGE_AT, 8, fill_up ? thirteen_full() - flows : flows);
+            sample.current = (int16_t)(fill_up ? current : -current);
+            sample.counter = (uint32_t)thirteen_number(T_COUNTER_AT, 4) + elapsed;
+            some_cells(cells);
+            play_thirteen_sample(sample, cells, SB2_THIRTEEN_AREA);
+            play_thirteen_read(0x16);
+        }
+}
+
+/* A sample at each border of each bit and one off it, then the status. */
+static void play_thirteen_edges(void)
+{
+    uint16_t cells[SB2_CELLS];
+    play_likely_thirteen();
+    for (size_t i = 0; i < 3 * T_EDGES; i++) {
+        int32_t least = status_edges[i / 3].least_current, wide = status_edges[i / 3].most_current - least;
+        int32_t at = status_edges[i / 3].border - 1 + (int32_t)(i % 3);
+        struct sb2_sample sample = thirteen_measured((uint32_t)thirteen_number(T_COUNTER_AT, 4) + below(1000));
+        sample.current = (int16_t)(least + (int32_t)below((uint32_t)wide + 1));
+        if (status_edges[i / 3].least_voltage > 0)
+            sample.voltage = (uint16_t)(51001 + below(65535 - 51000));
+        if (status_edges[i / 3].of == MILLIVOLTS)
+            sample.voltage = (uint16_t)at;
+        else if (status_edges[i / 3].of == MILLIAMPS)
+            sample.current = (int16_t)at;
+        else
+            sample.temperature = (uint16_t)at;
+        some_cells(cells);
+        play_thirteen_sample(sample, cells, SB2_THIRTEEN_AREA);
+        play_thirteen_read(0x16);
+    }
+}
+
+/* The three limits of the temperature from both sides, with the current below, at and above 0. */
+static void play_thirteen_degrees(void)
+{
+    static const uint16_t degrees[6] = {2731, 2732, 3231, 3232, 3331, 3332};
+    uint16_t cells[SB2_CELLS];
+    play_likely_thirteen();
+    for (size_t i = 0; i < 18; i++) {
+        struct sb2_sample sample = thirteen_measured((uint32_t)thirteen_number(T_COUNTER_AT, 4));
+        int32_t size = 1 + (int32_t)below(32767);
+        sample.temperature = degrees[i / 3];
+        sample.current = (int16_t)(i % 3 == 0 ? -size : i % 3 == 1 ? 0 : size);
+        some_cells(cells);
+        play_thirteen_sample(sample, cells, SB2_THIRTEEN_AREA);
+        play_thirteen_read(0x16);
+    }
+}
+
+/* Puts so much to go, to full or to empty, at a current the command's way; for 13 a mean of seconds, or the latest. */
+static void put_thirteen_to_go(bool fill_up, uint32_t capacity, int32_t rate)
+{
+    uint32_t full = one_in(2) ? 65535 : (capacity > 0 ? capacity : 1) + below(65536 - (capacity > 0 ? capacity : 1));
+    uint64_t left = fill_up ? full - capacity : capacity;
+    uint32_t count = fill_up && one_in(2) ? 1 + below(SB2_SECONDS) : 0;
+    int32_t current = fill_up ? rate : -rate;
+    put_thirteen(T_FULL_AT, 2, full);
+    put_thirteen(T_CHARGE_AT, 8, left * SB2_MS_PER_HOUR + (left < full ? below(SB2_MS_PER_HOUR) : 0));
+    put_thirteen(T_LATEST_AT + 2, 2, (uint64_t)(count > 0 ? some_current() : current));
+    put_thirteen(T_KEPT_AT, 1, count);
+    for (uint32_t place = 0; place < count; place++)
+        put_thirteen(T_TOTALS_AT + 4 * place, 4, (uint64_t)(1000 * (int64_t)current));
+}
+
+/* 11 and 13 about the cap; at any rate; at rates that don't flow the command's way. */
+static void play_thirteen_times(void)
+{
+    for (unsigned i = 0; i < 2 * (TIME_BORDERS + 3); i++) {
+        bool fill_up = i % 2;
+        uint32_t rate = 1 + below(32767), capacity = below(65536);
+        play_likely_thirteen();
+        if (i / 2 < TIME_BORDERS)
+            capacity = capacity_of(FIRST_BORDER + i / 2, &rate);
+        int32_t flows = i / 2 < TIME_BORDERS + 1 ? (int32_t)rate : i / 2 == TIME_BORDERS + 1 ? 1 : -(int32_t)below(32768);
+        put_thirteen_to_go(fill_up, capacity, flows);
+        play_thirteen_read(fill_up ? 0x13 : 0x11);
+    }
+}
+
+/* 16 commands in their turn: read, written, written with a wrong PEC and with none. */
+static void play_thirteen_commands(void)
+{
+    static uint8_t next;
+    for (int i = 0; i < 16; i++, next++) {
+        uint8_t message[5];
+        put_write(message, next, some_word());
+        play_thirteen_read(next);
+        int answer = play_thirteen_message(message, 5, false, SB2_THIRTEEN_AREA, SB2_REPLY_ROOM);
+        int row = thirteen_row(next);
+        expect(answer == (row == SB2_SERVED ? SB2_READ_ONLY : row), "a right write");
+        message[4] ^= (uint8_t)(1 + below(255));
+        answer = play_thirteen_message(message, 5, false, SB2_THIRTEEN_AREA, SB2_REPLY_ROOM);
+        expect(answer == SB2_WRONG_PEC, "a wrong PEC");
+        answer = play_thirteen_message(message, 4, false, SB2_THIRTEEN_AREA, SB2_REPLY_ROOM);
+        expect(answer == SB2_WRONG_FORM, "a write of four bytes");
+    }
+}
+
+/* Rooms of 0 to 40 bytes, of which 34 are enough, for a read and a write; at times in an area that isn't sound. */
+static void play_thirteen_rooms(void)
+{
+    for (size_t room_length = 0; room_length <= 40; room_length++) {
+        const uint8_t command = one_in(2) ? 0xF1 : thirteen_command(), ask[3] = {0x16, command, 0x17};
+        uint8_t message[5];
+        put_write(message, thirteen_command(), some_word());
+        int answer = play_thirteen_message(ask, 3, true, SB2_THIRTEEN_AREA, room_length);
+        expect((answer == SB2_SMALL_ROOM) == (room_length < SB2_REPLY_ROOM), "2");
+        (void)play_thirteen_message(message, 4 + below(2), false, SB2_THIRTEEN_AREA, room_length);
+    }
+}
+
+/* A right write, then with one to three of its bits altered: those are never more than 3 or 5. */
+static void play_thirteen_altered(void)
+{
+    uint8_t command = thirteen_command(), message[5];
+    uint16_t word = some_word();
+    for (uint32_t bits = 0; bits <= 3; bits++) {
+        put_write(message, command, word);
+        alter(message, 5, bits);
+        int answer = play_thirteen_message(message, 5, false, SB2_THIRTEEN_AREA, SB2_REPLY_ROOM);
+        compare(answer == SB2_NOT_FOR_PACK || answer == SB2_WRONG_PEC, bits > 0);
+        other[T_ALTERED + bits]++;
+    }
+}
+
+/* ---- F1's exchange of 30 bytes */
+
+static void play_whole_exchange(const uint8_t *bytes, size_t length, bool right)
+{
+    bool accepted = false;
+    struct sb2_bytes exchange = lend(0, bytes, length);
+    begin("exchange_check", 1, NO_AREA, false);
+    int answer = sb2_check_exchange(exchange, &accepted);
+    compare(snatchblock_exchange_check(exchange.at, length), (uint32_t)answer | (uint32_t)accepted << 8);
+    compare(accepted, right);
+    came_up(EXCHANGE, (uint32_t)answer);
+}
+
+static void turn(uint8_t *bytes, uint32_t bit)
+{
+    bytes[bit / 8] ^= (uint8_t)(0x80u >> bit % 8);
+}
+
+/* As it went; with one or three bits altered, and with two, which are seen unless they stand 127 bits apart. */
+static void play_thirteen_exchange(void)
+{
+    enum { BYTES = 3 + CELL_BYTES + 1, BITS_IN_IT = 8 * BYTES };
+    uint8_t exchange[BYTES] = {0x16, 0xF1, 0x17}, altered[BYTES];
+    play_likely_thirteen();
+    play_thirteen_read(0xF1);
+    memcpy(exchange + 3, room.s, CELL_BYTES + 1);
+    for (uint32_t bits = 0; bits <= 4; bits++) { /* the last are two that do */
+        uint32_t first = below(BITS_IN_IT - 127), apart = bits == 4 ? 127 : 1 + below(BITS_IN_IT - 1 - first);
+        memcpy(altered, exchange, BYTES);
+        if (bits % 2 == 1)
+            alter(altered, BYTES, bits);
+        else if (bits > 0)
+            turn(altered, first), turn(altered, first + apart);
+        play_whole_exchange(altered, BYTES, bits == 0 || (bits % 2 == 0 && apart == 127));
+        other[T_EXCHANGE + bits]++;
+    }
+}
+
+/* ---- its areas */
+
+/* Any area that is sound. */
+static void some_thirteen(void)
+{
+    uint32_t count = one_in(3) ? SB2_SECONDS : below(SB2_SECONDS + 1), ms = below(1000);
+    fill(thirteen_area, SB2_THIRTEEN_AREA);
+    put_thirteen(0, 1, below(8));
+    put_thirteen(T_DESIGN_AT, 2, some_word() | 1);
+    put_thirteen(T_DESIGN_VOLTAGE_AT, 2, some_word() | 1);
+    put_thirteen(T_HEALTH_AT, 2, some_word());
+    put_thirteen(T_FULL_AT, 2, 1 + below(65535));
+    put_thirteen(T_CHARGE_AT, 8, one_in(6) ? 0 : one_in(6) ? thirteen_full() : draw() % (thirteen_full() + 1));
+    put_thirteen(T_FLAG_AT, 1, below(2));
+    for (uint32_t place = 0; place < SB2_SECONDS; place++)
+        put_thirteen(T_TOTALS_AT + 4 * place, 4, place < count ? some_total(1000) : draw());
+    put_thirteen(T_KEPT_AT, 1, count);
+    put_thirteen(T_BEGUN_MS_AT, 2, ms);
+    put_thirteen(T_BEGUN_AT, 4, some_total(ms));
+}
+
+/* Puts a total at a border in a place under the count, or beyond it, which no test looks at. */
+static void bend_total(unsigned border, bool beyond)
+{
+    uint32_t place = below(SB2_SECONDS), count = beyond ? below(place + 1) : place + 1 + below(SB2_SECONDS - place);
+    for (uint32_t i = 0; i < count; i++)
+        put_thirteen(T_TOTALS_AT + 4 * i, 4, some_total(1000));
+    put_thirteen(T_TOTALS_AT + 4 * place, 4, border_total(border, 1000));
+    put_thirteen(T_KEPT_AT, 1, count);
+}
+
+/* Bends a sound area in one way; whether it still is sound. */
+static bool bend_thirteen(unsigned kind)
+{
+    uint64_t full = thirteen_full();
+    if (kind >= T_BEND_TOTALS)
+        bend_total((kind - T_BEND_TOTALS) % 4, kind >= T_BEND_TOTALS + 4);
+    switch (kind) {
+    case 0: return true;
+    case 1: put_thirteen(0, 1, 7); return true;
+    case 2: put_thirteen(0, 1, 8); return false;
+    case 3: put_thirteen(0, 1, 9 + below(247)); return false;
+    case 4: put_thirteen(T_CHARGE_AT, 8, full - 1); return true;
+    case 5: put_thirteen(T_CHARGE_AT, 8, full); return true;
+    case 6: put_thirteen(T_CHARGE_AT, 8, full + 1); return false;
+    case 7: put_thirteen(T_CHARGE_AT, 8, full + 2 + (draw() >> (1 + below(63)))); return false;
+    case 8: put_thirteen(T_DESIGN_AT, 2, 0); return false;
+    case 9: put_thirteen(T_DESIGN_VOLTAGE_AT, 2, 0); return false;
+    case 10: put_thirteen(T_FULL_AT, 2, 0), put_thirteen(T_CHARGE_AT, 8, 0); return false;
+    case 11: put_thirteen(T_KEPT_AT, 1, SB2_SECONDS + 1); return false;
+    case 12: put_thirteen(T_KEPT_AT, 1, SB2_SECONDS + 2 + below(194)); return false;
+    case 13: put_thirteen(T_BEGUN_MS_AT, 2, 999), put_thirteen(T_BEGUN_AT, 4, some_total(999)); return true;
+    case 14: put_thirteen(T_BEGUN_MS_AT, 2, 1000), put_thirteen(T_BEGUN_AT, 4, some_total(999)); return false;
+    case 15: put_thirteen(T_BEGUN_MS_AT, 2, 1001 + below(64535)); return false;
+    case 16: case 17: case 18: case 19: /* both borders of the begun total, and one beyond each */
+        put_thirteen(T_BEGUN_AT, 4, border_total(kind - 16, (uint32_t)thirteen_number(T_BEGUN_MS_AT, 2)));
+        return kind % 2 == 0;
+    case 20: case 21: put_thirteen(T_FLAG_AT, 1, kind - 20); return true;
+    case 22: put_thirteen(T_FLAG_AT, 1, 2); return false;
+    case 23: put_thirteen(T_FLAG_AT, 1, 3 + below(253)); return false;
+    default: return kind % 2 == 0 || kind >= T_BEND_TOTALS + 4;
+    }
+}
+
+/* The area in each entry that looks at it; it stays as it is. */
+static bool play_thirteen_area(void)
+{
+    uint8_t kept[SB2_THIRTEEN_AREA];
+    memcpy(kept, thirteen_area, sizeof kept);
+    bool sound = play_thirteen_sound(SB2_THIRTEEN_AREA);
+    play_thirteen_read(thirteen_served[below(22)]);
+    play_thirteen_transact(thirteen_size());
+    memcpy(thirteen_area, kept, sizeof kept);
+    play_thirteen_time(SB2_THIRTEEN_AREA);
+    memcpy(thirteen_area, kept, sizeof kept);
+    return sound;
+}
+
+static void play_thirteen_bends(void)
+{
+    for (unsigned kind = 0; kind < T_BENDS; kind++) {
+        some_thirteen();
+        bool wanted = bend_thirteen(kind), sound = play_thirteen_area();
+        expect(sound == wanted, "an area bent in one way");
+        other[T_BENT + kind]++;
+    }
+}
+
+/* Some bits or bytes of a sound area altered. */
+static void play_thirteen_damage(void)
+{
+    some_thirteen();
+    if (one_in(2))
+        alter(thirteen_area, SB2_THIRTEEN_AREA, 1 + below(3));
+    else
+        fill(thirteen_area + below(SB2_THIRTEEN_AREA), 1 + below(8)); /* at times behind its end */
+    other[T_DAMAGED + play_thirteen_area()]++;
+}
+
+/* An area of another size in each entry. */
+static void play_thirteen_sizes(void)
+{
+    static const size_t sizes[] = {0, SB2_THIRTEEN_AREA - 1, SB2_THIRTEEN_AREA + 1, SNATCHBLOCK_AREA};
+    const struct sb2_thirteen_set_up in = some_thirteen_set_up(one_in(2));
+    size_t kind = below(5), size = kind < 4 ? sizes[kind] : below(401);
+    play_thirteen_set_up(&in, size);
+    (void)play_thirteen_sound(size);
+    play_thirteen_time(size);
+    play_thirteen_transact(size);
+}
+
+/* Set-ups of any words; and refused for each reason alone. */
+static void play_thirteen_set_ups(void)
+{
+    for (unsigned reason = 0; reason < 5; reason++) {
+        struct sb2_thirteen_set_up in = some_thirteen_set_up(reason < 4);
+        switch (reason) {
+        case 0: in.design_capacity = 0; break;
+        case 1: in.design_voltage = 0; break;
+        case 2: in.full_capacity = in.remaining_capacity = 0; break;
+        case 3: in.full_capacity -= in.full_capacity == 65535, in.remaining_capacity = (uint16_t)(in.full_capacity + 1); break;
+        default: break;
+        }
+        play_thirteen_set_up(&in, thirteen_size());
+    }
+}
+
+static void play_thirteen(void)
+{
+    for (int i = 0; i < 2; i++) {
+        play_thirteen_life();
+        play_thirteen_run();
+        play_thirteen_commands();
+        play_thirteen_sizes();
+        play_thirteen_set_ups();
+        play_thirteen_times();
+        play_thirteen_exchange();
+    }
+    for (int i = 0; i < 4; i++) {
+        play_thirteen_damage();
+        some_thirteen();
+        play_thirteen_altered();
+    }
+    some_thirteen();
+    play_thirteen_rooms();
+    play_thirteen_edges();
+    play_thirteen_degrees();
+    play_thirteen_ends();
+    play_thirteen_bends();
+}
+
 /* ---- all of it */
 
 static void play(void)
 {
-    switch (below(18)) {
+    switch (below(19)) {
+    case 18: play_thirteen(); break;
     case 17: play_edits(); break;
     case 16: play_charger(); break;
     case 15: play_cut_off(); break;
@@ -3188,6 +4069,18 @@ static bool charger_status_as_said(void)
         wrong += other[C_STATUS_CLEAR + set[i]];
     if (wrong > 0)
         printf("  charger's status bit 1, 5 to 11 or 13 set, or 4, 14 or 15 clear: WRONG\n");
+    return wrong == 0;
+}
+
+/* And of the thirteen-cell pack. */
+static bool thirteen_status_as_said(void)
+{
+    static const unsigned clear[] = {0, 1, 2, 3, 14, 15};
+    uint64_t wrong = other[T_STATUS_CLEAR + 7];
+    for (size_t i = 0; i < sizeof clear / sizeof *clear; i++)
+        wrong += other[T_STATUS_SET + clear[i]];
+    if (wrong > 0)
+        printf("  thirteen cells' status bit 0 to 3, 14 or 15 set, or 7 clear: WRONG\n");
     return wrong == 0;
 }
 
@@ -3374,10 +4267,51 @@ static bool tally(void)
         {"9: the room ends before the sheet, by 1, by more", E_CUT, E_CUT + 1},
         {"sheets bent: 9, and still a sheet", E_BENT, E_BENT + 1},
         {"each two of 9, 18, 19 and 20 at once", E_ORDER, E_ORDER + 5},
+        {"thirteen cells: each served command read", T_READ, T_READ + 21},
+        {"each of 256 commands read", T_COMMAND, T_COMMAND + 255},
+        {"written with a right PEC", T_WRITE, T_WRITE + 255},
+        {"4: written without PEC", T_FOUR, T_FOUR + 255},
+        {"5: written with a wrong one", T_WRONG, T_WRONG + 255},
+        {"status bits 4 to 13 set", T_STATUS_SET + 4, T_STATUS_SET + 13},
+        {"0 to 6 clear", T_STATUS_CLEAR, T_STATUS_CLEAR + 6},
+        {"8 to 15 clear", T_STATUS_CLEAR + 8, T_STATUS_CLEAR + 15},
+        {"each border of each bit, one below, one above", T_EDGE, T_EDGE + 3 * T_EDGES - 1},
+        {"2731 to 3332 in 0.1 K, current below, at, above 0", T_DEGREES, T_DEGREES + 17},
+        {"0A: 0 from below, of 0, from above", T_CURRENT, T_CURRENT + 2},
+        {"below 0, above 0, -32,768 mA, 32,767", T_CURRENT + 3, T_CURRENT + 6},
+        {"09: of under 10 mV, exact, rounded down, of 65,535", T_VOLTAGE, T_VOLTAGE + 3},
+        {"each of 13 cells, no other like it", T_CELL, T_CELL + 12},
+        {"11, 13: minutes, beyond, not moving", T_TIME, T_TIME + 5},
+        {"each at 65,533 to 65,536 minutes before the cap", T_TIME_BORDER, T_TIME_BORDER + 7},
+        {"13 of the latest, of a mean that it isn't", T_MEAN, T_MEAN + 1},
+        {"0D: 0, under 20, under 100, 100", T_PERCENT, T_PERCENT + 3},
+        {"1, 2, 3: a code other than 0 stays", T_STAYS, T_STAYS + 2},
+        {"set-ups empty, between, full", T_SET_UP, T_SET_UP + 2},
+        {"11: DesignCapacity, DesignVoltage, full, remaining", T_SET_UP + 3, T_SET_UP + 6},
+        {"samples past 0, to 0, between, to full, past it", T_CHARGE, T_CHARGE + 4},
+        {"bit 4 clear: to charge 0, to under 20 %, else", T_BIT_4, T_BIT_4 + 2},
+        {"bit 4 set: the same", T_BIT_4 + 3, T_BIT_4 + 5},
+        {"samples that complete 0, 1, 2 to 58, 59 to 61, more s", T_DONE, T_DONE + 6},
+        {"0, 1 to 59, 60 seconds kept", T_KEPT, T_KEPT + 2},
+        {"gaps of 0, 1, 999, 1,000, 60,000, 61,000", T_GAP, T_GAP + 5},
+        {"of hours, over the wrap", T_GAP + 6, T_GAP + 7},
+        {"samples over the counter's wrap", T_WRAP, T_WRAP},
+        {"areas bent in one way: code, charge, 0, the minute", T_BENT, T_BENT + 19},
+        {"its flag: 0, 1, 2, others", T_BENT + 20, T_BENT + 23},
+        {"totals at the borders, under the count and beyond", T_BENT + T_BEND_TOTALS, T_BENT + T_BENDS - 1},
+        {"damaged: not sound, sound", T_DAMAGED, T_DAMAGED + 1},
+        {"areas of 0, 300, 302, 330, other bytes in each entry", T_LENGTH, T_LENGTH + 19},
+        {"rooms of 0 to 40 bytes, reads and writes", T_ROOM, T_ROOM + 81},
+        {"3: no bytes, 12, 17, others", T_ADDRESS, T_ADDRESS + 3},
+        {"4: a read too long or short, or not 17; a write", T_FORM, T_FORM + 2},
+        {"1 to 8: each two at once", T_BOTH, T_BOTH + 17},
+        {"of these 4 or 5 with 6, 7 or 8", T_BOTH + 19, T_BOTH + 24},
+        {"writes right; 1, 2, 3 bits altered: 3 or 5", T_ALTERED, T_ALTERED + 3},
+        {"30 bytes right; 1, 2, 3 bits altered, 2 127 apart", T_EXCHANGE, T_EXCHANGE + 4},
     };
     for (size_t i = 0; i < sizeof lines / sizeof *lines; i++)
         all = count_other(lines[i].name, lines[i].first, lines[i].last) && all;
-    return status_as_said() && charger_status_as_said() && all;
+    return status_as_said() && charger_status_as_said() && thirteen_status_as_said() && all;
 }
 
 static void end_run(void)

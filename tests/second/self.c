@@ -1,8 +1,8 @@
 /* Holds the second program to published facts: document 01's worked examples
  * and tables, both packets of source document 001, the check word of CRC-8 and
  * the values that 002 works out. Then to properties that document 01 states, and
- * to figures worked by hand from the words of requests R-1, R-2, R-4 to R-7
- * and R-9. */
+ * to figures worked by hand from the words of requests R-1, R-2, R-4 to R-7, R-9
+ * and R-10. */
 #include "../../second/snatchblock2.h"
 
 #include <stdio.h>
@@ -3113,6 +3113,867 @@ static void many_edits(void)
     }
 }
 
+/* ---- request R-10 */
+
+/* The player's pack: half of 9,700 mAh, 48,191 mV and −1,234 mA measured, cell i at 3,700 + i mV. */
+static struct sb2_thirteen_set_up sprayer(void)
+{
+    struct sb2_thirteen_set_up in = {.design_capacity = 10000,
+                                     .full_capacity = 9700,
+                                     .remaining_capacity = 4850,
+                                     .design_voltage = 46800,
+                                     .state_of_health = 97,
+                                     .first = {48191, -1234, 2982, 0}};
+    for (uint16_t i = 0; i < 13; i++)
+        in.cells[i] = (uint16_t)(3701 + i);
+    return in;
+}
+
+static struct sb2_thirteen thirteen_made(struct sb2_thirteen_set_up in)
+{
+    struct sb2_thirteen t;
+    CHECK(sb2_thirteen_set_up(&t, &in), 0);
+    CHECK(sb2_thirteen_sound(&t), true);
+    CHECK(t.error_code, 0);
+    return t;
+}
+
+/* By their areas, which hold all of it; an error code over 255 doesn't fit. */
+static bool same_thirteen(const struct sb2_thirteen *a, const struct sb2_thirteen *b)
+{
+    uint8_t left[301], right[301];
+    sb2_area_thirteen_store(a, left);
+    sb2_area_thirteen_store(b, right);
+    return a->error_code == b->error_code && memcmp(left, right, 301) == 0;
+}
+
+/* The PEC by a long division of the whole message, bit by bit, with eight zeros behind it. */
+static uint8_t divided(struct sb2_bytes message)
+{
+    unsigned rest = 0;
+    for (size_t bit = 0; bit < 8 * message.length + 8; bit++) {
+        rest = rest << 1 | (bit < 8 * message.length ? message.at[bit / 8] >> (7 - bit % 8) & 1u : 0u);
+        if (rest & 0x100)
+            rest ^= 0x107;
+    }
+    return (uint8_t)rest;
+}
+
+/* The same transaction in an area: the same answer and room, and of the area only the first byte moves. */
+static void thirteen_in_area(const struct sb2_thirteen *before, const struct sb2_thirteen *after, int answer, bool read,
+                             struct sb2_bytes message, const uint8_t room[64], size_t room_length)
+{
+    uint8_t area[301], wanted[301], its_room[64];
+    size_t length;
+    memset(its_room, 0xA5, sizeof its_room);
+    sb2_area_thirteen_store(before, area);
+    memcpy(wanted, area, 301);
+    wanted[0] = (uint8_t)after->error_code;
+    int got = sb2_area_thirteen_transact(area, 301, read, message, its_room + 4, room_length, &length);
+    if (got != answer || memcmp(its_room, room, 64) != 0 || memcmp(area, wanted, 301) != 0)
+        CHECK(got, -1);
+}
+
+/* Answer of a transaction in a watched room, in an area too. Nothing changes but the code, by the answer's row. */
+static int thirteen_hears(struct sb2_thirteen *t, bool read, struct sb2_bytes message, size_t room_length,
+                          uint8_t reply[SB2_REPLY_ROOM], size_t *length)
+{
+    static const int codes[] = {0, -1, -1, -1, 6, 7, 2, 3, 4, -2, 5}; /* −1: as it was */
+    const struct sb2_thirteen before = *t;
+    struct sb2_thirteen wanted = *t;
+    uint8_t room[64];
+    memset(room, 0xA5, sizeof room);
+    int answer = sb2_thirteen_transact(t, read, message, room + 4, room_length, length);
+    for (size_t i = 0; i < sizeof room; i++)
+        if ((i < 4 || i >= 4 + *length) && room[i] != 0xA5)
+            CHECK(room[i], 0xA5);
+    if (codes[answer] != -1)
+        wanted.error_code = (uint32_t)codes[answer];
+    if (!same_thirteen(&wanted, t))
+        CHECK(answer, -1);
+    if (answer != 0 && answer != 10 && *length != 0)
+        CHECK(*length, 0);
+    thirteen_in_area(&before, t, answer, read, message, room, room_length);
+    memcpy(reply, room + 4, SB2_REPLY_ROOM);
+    return answer;
+}
+
+static int thirteen_answers(struct sb2_thirteen *t, bool read, struct sb2_bytes message)
+{
+    uint8_t reply[SB2_REPLY_ROOM];
+    size_t length;
+    return thirteen_hears(t, read, message, SB2_REPLY_ROOM, reply, &length);
+}
+
+/* The word of a read, or −1 and the answer's number below it. */
+static long thirteen_word(struct sb2_thirteen *t, uint8_t command)
+{
+    uint8_t reply[SB2_REPLY_ROOM];
+    size_t length;
+    int answer = thirteen_hears(t, true, BYTES(0x16, command, 0x17), SB2_REPLY_ROOM, reply, &length);
+    if (answer != 0 && answer != 10)
+        return -1 - answer;
+    if (length != 3)
+        CHECK(length, 3);
+    if (reply[2] != divided(BYTES(0x16, command, 0x17, reply[0], reply[1])))
+        CHECK(reply[2], -1);
+    return reply[0] | (long)reply[1] << 8;
+}
+
+/* A write of five bytes with its PEC. */
+static int thirteen_put(struct sb2_thirteen *t, uint8_t command, unsigned value)
+{
+    uint8_t message[5] = {0x16, command, (uint8_t)value, (uint8_t)(value >> 8), 0};
+    message[4] = divided(bytes(message, 4));
+    return thirteen_answers(t, false, bytes(message, 5));
+}
+
+/* A sample so much later; the cells stay. */
+static void thirteen_takes(struct sb2_thirteen *t, uint16_t voltage, int16_t current, uint16_t temperature, uint32_t ms)
+{
+    const struct sb2_sample later = {voltage, current, temperature, t->latest.counter + ms};
+    const uint32_t code = t->error_code;
+    uint8_t area[301], wanted[301];
+    sb2_area_thirteen_store(t, area);
+    CHECK(sb2_area_thirteen_sample(area, 301, &later, t->cells), 0);
+    CHECK(sb2_thirteen_sample(t, &later, t->cells), 0);
+    CHECK(same_sample(&t->latest, &later), true);
+    CHECK(t->error_code, code);
+    CHECK(sb2_thirteen_sound(t), true);
+    sb2_area_thirteen_store(t, wanted);
+    CHECK(memcmp(area, wanted, 301), 0);
+}
+
+/* Each command of the player's pack: 4,850 of 9,700 mAh are 50 percent; 60 x 4,850 ÷ 1,234 are 235.8 minutes. */
+static void thirteen_words(void)
+{
+    struct sb2_thirteen t = thirteen_made(sprayer());
+    CHECK(thirteen_word(&t, 0x08), 2982);
+    CHECK(thirteen_word(&t, 0x09), 4819);
+    CHECK(thirteen_word(&t, 0x0A), 65536 - 123);
+    CHECK(thirteen_word(&t, 0x0D), 50);
+    CHECK(thirteen_word(&t, 0x11), 235);
+    CHECK(thirteen_word(&t, 0x13), 65535);
+    CHECK(thirteen_word(&t, 0x16), 0x00C0);
+    for (unsigned i = 1; i <= 13; i++)
+        CHECK(thirteen_word(&t, (uint8_t)(0x30 + i)), 3700 + i);
+    CHECK(thirteen_word(&t, 0x4F), 97);
+    static const uint16_t edges[] = {0, 1, 100, 101, 32768, 65535};
+    for (size_t i = 0; i < 6; i++) { /* shown as they are */
+        struct sb2_thirteen_set_up in = sprayer();
+        in.state_of_health = in.first.temperature = in.cells[0] = in.cells[12] = edges[i];
+        t = thirteen_made(in);
+        CHECK(thirteen_word(&t, 0x4F), edges[i]);
+        CHECK(thirteen_word(&t, 0x08), edges[i]);
+        CHECK(thirteen_word(&t, 0x31), edges[i]);
+        CHECK(thirteen_word(&t, 0x32), 3702);
+        CHECK(thirteen_word(&t, 0x3C), 3712);
+        CHECK(thirteen_word(&t, 0x3D), edges[i]);
+    }
+}
+
+/* 09 is rounded down, 0A cut toward zero, both in tens. */
+static void thirteen_tens(void)
+{
+    static const int32_t voltages[][2] = {{0, 0}, {9, 0}, {10, 1}, {19, 1}, {54799, 5479}, {54800, 5480}, {65535, 6553}};
+    static const int32_t currents[][2] = {{0, 0},     {9, 0},     {10, 1},    {19, 1},           {32767, 3276}, {-1, 0},
+                                          {-9, 0},    {-10, -1},  {-11, -1},  {-19, -1},         {-20, -2},     {-99, -9},
+                                          {-100, -10}, {-32760, -3276}, {-32768, -3276}};
+    struct sb2_thirteen t = thirteen_made(sprayer());
+    for (size_t i = 0; i < sizeof voltages / sizeof *voltages; i++) {
+        thirteen_takes(&t, (uint16_t)voltages[i][0], 0, 2982, 0);
+        CHECK(thirteen_word(&t, 0x09), voltages[i][1]);
+    }
+    for (size_t i = 0; i < sizeof currents / sizeof *currents; i++) {
+        thirteen_takes(&t, 46800, (int16_t)currents[i][0], 2982, 0);
+        CHECK(thirteen_word(&t, 0x0A), currents[i][1] & 0xFFFF);
+    }
+    CHECK(-3276 & 0xFFFF, 0xF334); /* 65,536 − 3,276 are 62,260 */
+    thirteen_takes(&t, 46800, -32768, 2982, 0);
+    CHECK(thirteen_word(&t, 0x0A), 0xF334);
+}
+
+/* The status of a pack set up with a sample, and of one that takes it. */
+static void status_at(int line, uint16_t voltage, int16_t current, uint16_t temperature, long wanted)
+{
+    struct sb2_thirteen_set_up in = sprayer();
+    struct sb2_thirteen t = thirteen_made(in);
+    thirteen_takes(&t, voltage, current, temperature, 1000);
+    check_at(line, "status after a sample", thirteen_word(&t, 0x16), wanted);
+    in.first = (struct sb2_sample){voltage, current, temperature, 0};
+    t = thirteen_made(in);
+    t.error_code = 7; /* which it doesn't show */
+    check_at(line, "status after set-up", thirteen_word(&t, 0x16), wanted);
+}
+#define STATUS(voltage, current, temperature, wanted) status_at(__LINE__, voltage, current, temperature, wanted)
+
+/* Bits 8 and 9 from the voltage, 6, 10 and 11 from the current. */
+static void thirteen_limits(void)
+{
+    STATUS(45000, 0, 2982, 0x0080); /* bit 7 alone */
+    STATUS(0, 0, 2982, 0x0180);
+    STATUS(38999, 0, 2982, 0x0180);
+    STATUS(39000, 0, 2982, 0x0180);
+    STATUS(39001, 0, 2982, 0x0080);
+    STATUS(54799, 0, 2982, 0x0080);
+    STATUS(54800, 0, 2982, 0x0280);
+    STATUS(54801, 0, 2982, 0x0280);
+    STATUS(65535, 0, 2982, 0x0280);
+    STATUS(22000, 0, 2982, 0x0180); /* 001's 22 V isn't used */
+    STATUS(45000, 1, 2982, 0x0080);
+    STATUS(45000, -1, 2982, 0x00C0);
+    STATUS(45000, 1999, 2982, 0x0080);
+    STATUS(45000, 2000, 2982, 0x0480);
+    STATUS(45000, 2001, 2982, 0x0480);
+    STATUS(45000, 32767, 2982, 0x0480);
+    STATUS(45000, -2000, 2982, 0x00C0);
+    STATUS(45000, -14999, 2982, 0x00C0);
+    STATUS(45000, -15000, 2982, 0x08C0);
+    STATUS(45000, -15001, 2982, 0x08C0);
+    STATUS(45000, -32768, 2982, 0x08C0);
+    STATUS(45000, 15000, 2982, 0x0480);
+    STATUS(39000, -15000, 2982, 0x09C0);
+    STATUS(54800, 2000, 2982, 0x0680);
+}
+
+/* Bit 5 from 1 to 99 mA above 51,000 mV. */
+static void thirteen_full(void)
+{
+    STATUS(51001, -1, 2982, 0x00C0);
+    STATUS(51001, 0, 2982, 0x0080);
+    STATUS(51001, 1, 2982, 0x00A0);
+    STATUS(51001, 99, 2982, 0x00A0);
+    STATUS(51001, 100, 2982, 0x0080);
+    STATUS(51000, 1, 2982, 0x0080);
+    STATUS(51000, 50, 2982, 0x0080);
+    STATUS(51000, 99, 2982, 0x0080);
+    STATUS(50999, 50, 2982, 0x0080);
+    STATUS(51001, -50, 2982, 0x00C0);
+    STATUS(54799, 99, 2982, 0x00A0);
+    STATUS(54800, 99, 2982, 0x02A0);
+    STATUS(65535, 1, 2982, 0x02A0);
+    struct sb2_thirteen_set_up in = sprayer();
+    in.remaining_capacity = 9700; /* a full charge doesn't set it */
+    struct sb2_thirteen t = thirteen_made(in);
+    CHECK(thirteen_word(&t, 0x0D), 100);
+    CHECK(thirteen_word(&t, 0x16), 0x00C0);
+}
+
+/* Bit 12 and bit 13: 0 °C are 2,731.5 in 0.1 K, 50 °C 3,231.5 and 60 °C 3,331.5. */
+static void thirteen_temperatures(void)
+{
+    static const uint16_t at[] = {0, 2730, 2731, 2732, 3230, 3231, 3232, 3233, 3330, 3331, 3332, 3333, 65535};
+    for (size_t i = 0; i < sizeof at / sizeof *at; i++) {
+        const long cold = at[i] <= 2731 ? 0x1000 : 0, charging = at[i] >= 3232 ? 0x2000 : 0;
+        const long discharging = at[i] >= 3332 ? 0x2000 : 0;
+        STATUS(45000, 0, at[i], 0x0080 | cold);
+        STATUS(45000, 1, at[i], 0x0080 | cold | charging);
+        STATUS(45000, -1, at[i], 0x00C0 | cold | discharging);
+        STATUS(45000, 32767, at[i], 0x0480 | cold | charging);
+        STATUS(45000, -32768, at[i], 0x08C0 | cold | discharging);
+    }
+    STATUS(45000, 1, 2731, 0x1080);
+    STATUS(45000, 1, 2732, 0x0080);
+    STATUS(45000, 0, 3332, 0x0080); /* at rest it is never too hot */
+    STATUS(45000, 1, 3231, 0x0080);
+    STATUS(45000, 1, 3232, 0x2080);
+    STATUS(45000, -1, 3331, 0x00C0);
+    STATUS(45000, -1, 3332, 0x20C0);
+}
+
+/* A pack of 100 mAh with so many left, at rest. */
+static struct sb2_thirteen_set_up small_sprayer(uint16_t left)
+{
+    struct sb2_thirteen_set_up in = sprayer();
+    in.design_capacity = in.full_capacity = 100;
+    in.remaining_capacity = left;
+    in.first = (struct sb2_sample){45000, 0, 2982, 0};
+    return in;
+}
+
+/* Bit 4: set at charge 0, cleared at 20 percent, which are 72,000,000 mA·ms of 100 mAh, else kept. */
+static void thirteen_empty(void)
+{
+    struct sb2_thirteen t = thirteen_made(small_sprayer(1));
+    CHECK(thirteen_word(&t, 0x16), 0x0080);
+    t = thirteen_made(small_sprayer(0));
+    CHECK(thirteen_word(&t, 0x16), 0x0090);
+    thirteen_takes(&t, 45000, 1000, 2982, 1);
+    CHECK(thirteen_word(&t, 0x16), 0x0090);
+    thirteen_takes(&t, 45000, 1000, 2982, 71998);
+    CHECK(t.charge, 71999000);
+    CHECK(thirteen_word(&t, 0x0D), 19);
+    CHECK(thirteen_word(&t, 0x16), 0x0090);
+    thirteen_takes(&t, 45000, 1000, 2982, 1);
+    CHECK(thirteen_word(&t, 0x0D), 20);
+    CHECK(thirteen_word(&t, 0x16), 0x0080);
+    thirteen_takes(&t, 45000, -1000, 2982, 71999);
+    CHECK(t.charge, 1000);
+    CHECK(thirteen_word(&t, 0x16), 0x00C0); /* still clear at 0 percent */
+    thirteen_takes(&t, 45000, -1000, 2982, 1);
+    CHECK(thirteen_word(&t, 0x16), 0x00D0);
+    thirteen_takes(&t, 45000, 0, 2982, 1000);
+    CHECK(thirteen_word(&t, 0x16), 0x0090);
+}
+
+/* Charge is held at both ends; full stays, where the first pack would learn it at a low voltage; the counter wraps. */
+static void thirteen_samples(void)
+{
+    struct sb2_thirteen t = thirteen_made(small_sprayer(100));
+    thirteen_takes(&t, 45000, 1, 2982, 4294967295u);
+    CHECK(t.charge, 360000000);
+    thirteen_takes(&t, 0, -1000, 2982, 36000); /* 10 mAh */
+    CHECK(t.charge, 324000000);
+    CHECK(thirteen_word(&t, 0x0D), 90);
+    thirteen_takes(&t, 0, -1000, 2982, 324000);
+    CHECK(t.charge, 0);
+    thirteen_takes(&t, 0, -32768, 2982, 4294967295u);
+    CHECK(t.charge, 0);
+    CHECK(t.full_capacity, 100);
+    thirteen_takes(&t, 45000, 32767, 2982, 4294967295u);
+    CHECK(t.charge, 360000000);
+    CHECK(thirteen_word(&t, 0x0D), 100);
+    thirteen_takes(&t, 45000, 0, 2982, 4294967295u); /* after storage */
+    CHECK(t.charge, 360000000);
+    t.latest.counter = 4294967290u;
+    thirteen_takes(&t, 45000, -1, 2982, 10);
+    CHECK(t.latest.counter, 4);
+    CHECK(t.charge, 359999990);
+    CHECK(t.design_capacity, 100);
+    CHECK(t.design_voltage, 46800);
+    CHECK(t.state_of_health, 97);
+    /* each sample brings its cells; a refused one changes nothing */
+    const uint16_t cells[13] = {0, 65535, 3, 4, 5, 6, 7, 8, 9, 10, 11, 12, 32768};
+    const struct sb2_sample later = {1, 2, 3, 4};
+    CHECK(sb2_thirteen_sample(&t, &later, cells), 0);
+    for (unsigned i = 0; i < 13; i++)
+        CHECK(thirteen_word(&t, (uint8_t)(0x31 + i)), cells[i]);
+    t.charge = 360000001;
+    const struct sb2_thirteen before = t;
+    const uint16_t others[13] = {1};
+    CHECK(sb2_thirteen_sample(&t, &later, others), 1);
+    CHECK(same_thirteen(&before, &t), true);
+}
+
+/* So much to go, of 65,535 mAh, at a current of so many mA the command's way; 13 also from a complete second. */
+static void thirteen_time_at(int line, uint16_t capacity, int32_t rate, int answer, long wanted)
+{
+    for (unsigned i = 0; i < 3; i++) {
+        const uint8_t command = i == 0 ? 0x11 : 0x13;
+        struct sb2_thirteen_set_up in = sprayer();
+        in.full_capacity = 65535;
+        in.remaining_capacity = i == 0 ? capacity : (uint16_t)(65535 - capacity);
+        in.first.current = (int16_t)(i == 0 ? -rate : rate);
+        struct sb2_thirteen t = thirteen_made(in);
+        if (i == 2) {
+            t.minute.count = 1;
+            t.minute.total[t.minute.newest] = 1000 * t.latest.current;
+            t.latest.current = -t.latest.current;
+        }
+        t.error_code = 3;
+        check_at(line, "minutes", thirteen_word(&t, command), wanted);
+        check_at(line, "code", t.error_code, answer == 10 ? 5 : 0);
+        check_at(line, "answer", thirteen_answers(&t, true, BYTES(0x16, command, 0x17)), answer);
+    }
+}
+#define THIRTEEN_TIME(capacity, rate, answer, wanted) thirteen_time_at(__LINE__, capacity, rate, answer, wanted)
+
+static void thirteen_times(void)
+{
+    THIRTEEN_TIME(0, 1, 0, 0);
+    THIRTEEN_TIME(1, 60, 0, 1);
+    THIRTEEN_TIME(1, 61, 0, 0);
+    THIRTEEN_TIME(65533, 60, 0, 65533);
+    THIRTEEN_TIME(32767, 30, 0, 65534);  /* exactly */
+    THIRTEEN_TIME(62258, 57, 0, 65534);  /* 3,735,480 ÷ 57, 42 over */
+    THIRTEEN_TIME(4369, 4, 10, 65534);   /* 65,535 */
+    THIRTEEN_TIME(65535, 60, 10, 65534); /* 65,535 */
+    THIRTEEN_TIME(16384, 15, 10, 65534); /* 65,536 */
+    THIRTEEN_TIME(65535, 1, 10, 65534);
+    THIRTEEN_TIME(65535, 32767, 0, 120);
+    THIRTEEN_TIME(65535, 0, 0, 65535);
+    THIRTEEN_TIME(65535, -1, 0, 65535);
+    THIRTEEN_TIME(0, -32767, 0, 65535);
+    struct sb2_thirteen_set_up in = sprayer();
+    in.full_capacity = in.remaining_capacity = 65535;
+    in.first.current = -32768;
+    struct sb2_thirteen t = thirteen_made(in);
+    CHECK(thirteen_word(&t, 0x11), 119); /* 3,932,100 ÷ 32,768 */
+}
+
+/* 11 from the latest current, 13 from the mean of the complete seconds. */
+static void thirteen_minute(void)
+{
+    struct sb2_thirteen_set_up in = sprayer();
+    in.full_capacity = 4000;
+    in.remaining_capacity = 1999;
+    in.first = (struct sb2_sample){45000, 1000, 2982, 0};
+    struct sb2_thirteen t = thirteen_made(in);
+    CHECK(thirteen_word(&t, 0x13), 120); /* none complete: 60 x 2,001 ÷ 1,000 */
+    thirteen_takes(&t, 45000, 1000, 2982, 999);
+    thirteen_takes(&t, 45000, 3000, 2982, 0);
+    CHECK(thirteen_word(&t, 0x13), 40); /* still none: 60 x 2,001 ÷ 3,000 */
+    thirteen_takes(&t, 45000, 1000, 2982, 1);
+    thirteen_takes(&t, 45000, 3000, 2982, 1000);
+    CHECK(thirteen_word(&t, 0x13), 60); /* 4,000,000 mA·ms more are 2,000 mAh, at 2,000 mA */
+    CHECK(thirteen_word(&t, 0x11), 65535);
+    thirteen_takes(&t, 45000, -500, 2982, 1000);
+    CHECK(thirteen_word(&t, 0x13), 102); /* 1,999.97 mAh; 60 x 2,001 ÷ 1,166, a third of 3,500 */
+    CHECK(thirteen_word(&t, 0x11), 239); /* 60 x 1,999 ÷ 500 */
+    thirteen_takes(&t, 45000, -500, 2982, 60000);
+    CHECK(thirteen_word(&t, 0x13), 65535); /* the minute has the 60 newest alone */
+    CHECK(t.minute.count, 60);
+}
+
+static bool thirteen_serves(unsigned command)
+{
+    return (command >= 0x08 && command <= 0x0A) || command == 0x0D || command == 0x11 || command == 0x13 ||
+           command == 0x16 || (command >= 0x31 && command <= 0x3D) || command == 0x4F || command == 0xF1;
+}
+
+/* Each command's row: read, written with a right PEC, with a wrong one, and with none. */
+static void thirteen_commands(void)
+{
+    unsigned served = 0, not_built = 0;
+    for (unsigned command = 0; command < 256; command++) {
+        const uint8_t named = (uint8_t)command;
+        const bool left_out = command == 0 || command == 0x80 || command == 0x81 || (command >= 0xA0 && command <= 0xA2);
+        const int refused = left_out ? 7 : 6;
+        struct sb2_thirteen t = thirteen_made(sprayer());
+        uint8_t message[5] = {0x16, named, 0x10, 0x00, 0};
+        CHECK(thirteen_answers(&t, true, BYTES(0x16, named, 0x17)), thirteen_serves(command) ? 0 : refused);
+        CHECK(thirteen_put(&t, named, 0x0010), thirteen_serves(command) ? 8 : refused);
+        CHECK(thirteen_put(&t, named, command << 8 | 0xFF), thirteen_serves(command) ? 8 : refused);
+        CHECK(thirteen_answers(&t, false, bytes(message, 4)), 4);
+        for (unsigned bit = 0; bit < 8; bit++) {
+            message[4] = (uint8_t)(divided(bytes(message, 4)) ^ 1u << bit);
+            CHECK(thirteen_answers(&t, false, bytes(message, 5)), 5);
+        }
+        served += thirteen_serves(command);
+        not_built += left_out;
+    }
+    CHECK(served, 7 + 13 + 2);
+    CHECK(not_built, 6);
+}
+
+/* Every first byte but 16 is 3; every size and form but those of its reads and writes is 4, before 5, 6, 7 and 8. */
+static void thirteen_forms(void)
+{
+    struct sb2_thirteen t = thirteen_made(sprayer());
+    uint8_t message[40] = {0};
+    CHECK(thirteen_answers(&t, true, nothing), 3);
+    CHECK(thirteen_answers(&t, false, nothing), 3);
+    for (unsigned first = 0; first < 256; first++)
+        for (size_t length = 1; length <= 6; length++) {
+            const uint8_t sent[6] = {(uint8_t)first, 0x09, 0x17, 0, 0, 0};
+            if (first == 0x16)
+                continue;
+            CHECK(thirteen_answers(&t, true, bytes(sent, length)), 3);
+            CHECK(thirteen_answers(&t, false, bytes(sent, length)), 3);
+        }
+    for (size_t length = 1; length <= sizeof message; length++) {
+        memcpy(message, "\x16\x09\x17", 3);
+        CHECK(thirteen_answers(&t, true, bytes(message, length)), length == 3 ? 0 : 4);
+        CHECK(thirteen_answers(&t, false, bytes(message, length)), length == 5 ? 5 : 4);
+    }
+    for (unsigned third = 0; third < 256; third++) {
+        CHECK(thirteen_answers(&t, true, BYTES(0x16, 0xF1, (uint8_t)third)), third == 0x17 ? 0 : 4);
+        CHECK(thirteen_answers(&t, true, BYTES(0x16, 0x80, (uint8_t)third)), third == 0x17 ? 7 : 4);
+        CHECK(thirteen_answers(&t, true, BYTES(0x16, 0x17, (uint8_t)third)), third == 0x17 ? 6 : 4);
+    }
+    CHECK(thirteen_answers(&t, false, BYTES(0x16, 0x09, 0x17)), 4);
+    /* 001's own writes: Shutdown with its PEC and without, A2 with one byte, the packet of 36 bytes */
+    CHECK(thirteen_answers(&t, false, BYTES(0x16, 0x00, 0x10, 0x00, 0x44)), 7);
+    CHECK(thirteen_answers(&t, false, BYTES(0x16, 0x00, 0x10, 0x00)), 4);
+    CHECK(thirteen_answers(&t, false, BYTES(0x16, 0xA2, 0x00)), 4);
+    memcpy(message, "\x16\xA1\x00\x01", 4);
+    CHECK(thirteen_answers(&t, false, bytes(message, 36)), 4);
+}
+
+/* 1 before 2 before 3; 2 under 34 bytes of room, for a word and a write too. */
+static void thirteen_rooms(void)
+{
+    struct sb2_thirteen t = thirteen_made(sprayer());
+    uint8_t reply[SB2_REPLY_ROOM];
+    size_t length;
+    t.error_code = 5; /* stays after 1, 2 and 3 */
+    for (size_t room_length = 0; room_length < 34; room_length++) {
+        CHECK(thirteen_hears(&t, true, BYTES(0x16, 0x09, 0x17), room_length, reply, &length), 2);
+        CHECK(thirteen_hears(&t, true, BYTES(0x16, 0xF1, 0x17), room_length, reply, &length), 2);
+        CHECK(thirteen_hears(&t, false, BYTES(0x16, 0x09, 0, 0), room_length, reply, &length), 2);
+        CHECK(thirteen_hears(&t, false, nothing, room_length, reply, &length), 2);
+    }
+    CHECK(thirteen_hears(&t, true, BYTES(0x14, 0x09, 0x17), 34, reply, &length), 3);
+    CHECK(t.error_code, 5);
+    for (size_t room_length = 34; room_length <= 40; room_length++) {
+        CHECK(thirteen_hears(&t, true, BYTES(0x16, 0x09, 0x17), room_length, reply, &length), 0);
+        CHECK(memcmp(reply, "\xD3\x12\x90", 3), 0);
+    }
+    t.charge = UINT64_C(9700) * 3600000 + 1;
+    t.error_code = 5;
+    CHECK(thirteen_hears(&t, true, BYTES(0x16, 0x09, 0x17), 34, reply, &length), 1);
+    CHECK(thirteen_hears(&t, false, nothing, 0, reply, &length), 1);
+    CHECK(t.error_code, 5);
+}
+
+/* The code after each answer, from a code of its own; a read of the status neither shows nor needs it. */
+static void thirteen_codes(void)
+{
+    struct sb2_thirteen_set_up in = sprayer();
+    in.remaining_capacity = 9700;
+    in.first.current = -1; /* 582,000 minutes */
+    for (uint32_t before = 0; before <= 7; before++) {
+        struct sb2_thirteen t = thirteen_made(in);
+#define CODE(answer, code, read, ...)                                                       \
+    do {                                                                                    \
+        t.error_code = before;                                                              \
+        CHECK(thirteen_answers(&t, read, BYTES(__VA_ARGS__)), answer);                      \
+        CHECK(t.error_code, code);                                                          \
+        CHECK(sb2_thirteen_sound(&t), true);                                                \
+    } while (0)
+        CODE(0, 0, true, 0x16, 0x09, 0x17);
+        CODE(0, 0, true, 0x16, 0xF1, 0x17);
+        CODE(0, 0, true, 0x16, 0x16, 0x17);
+        CODE(0, 0, true, 0x16, 0x13, 0x17);
+        CODE(3, before, true, 0x12, 0x09, 0x13);
+        CODE(4, 6, false, 0x16, 0x4F, 0x61, 0x00);
+        CODE(4, 6, true, 0x16, 0x4F);
+        CODE(5, 7, false, 0x16, 0x4F, 0x61, 0x00, 0x33);
+        CODE(6, 2, false, 0x16, 0x17, 0x00, 0x00, 0xA7);
+        CODE(6, 2, true, 0x16, 0x17, 0x17);
+        CODE(7, 3, false, 0x16, 0xA2, 0x00, 0x00, 0x8D);
+        CODE(7, 3, true, 0x16, 0x80, 0x17);
+        CODE(8, 4, false, 0x16, 0x4F, 0x61, 0x00, 0x32);
+        CODE(8, 4, false, 0x16, 0xF1, 0x00, 0x00, 0x14);
+        CODE(10, 5, true, 0x16, 0x11, 0x17);
+    }
+}
+
+/* F1: 26 bytes with no count before them; its exchange of 30 bytes ends in their PEC. */
+static void thirteen_block(void)
+{
+    static const uint8_t wanted[27] = {0x75, 0x0E, 0x76, 0x0E, 0x77, 0x0E, 0x78, 0x0E, 0x79, 0x0E, 0x7A, 0x0E, 0x7B, 0x0E,
+                                       0x7C, 0x0E, 0x7D, 0x0E, 0x7E, 0x0E, 0x7F, 0x0E, 0x80, 0x0E, 0x81, 0x0E, 0x3C};
+    struct sb2_thirteen t = thirteen_made(sprayer());
+    uint8_t reply[SB2_REPLY_ROOM], exchange[30] = {0x16, 0xF1, 0x17};
+    size_t length, accepted = 0;
+    bool right;
+    CHECK(thirteen_hears(&t, true, BYTES(0x16, 0xF1, 0x17), 34, reply, &length), 0);
+    CHECK(length, 27);
+    CHECK(memcmp(reply, wanted, 27), 0); /* 3,701 to 3,713 are 0E75 to 0E81 */
+    memcpy(exchange + 3, reply, 27);
+    CHECK(divided(bytes(exchange, 29)), 0x3C);
+    CHECK(sb2_check_exchange(bytes(exchange, 30), &right), 0);
+    CHECK(right, true);
+    /* of its 240 bits each one turned is seen, and each two unless they stand 127 apart, as 113 pairs do */
+    for (unsigned i = 0; i < 240; i++)
+        for (unsigned j = i; j < 240; j++) {
+            exchange[i / 8] ^= (uint8_t)(1u << (7 - i % 8));
+            if (j != i)
+                exchange[j / 8] ^= (uint8_t)(1u << (7 - j % 8));
+            (void)sb2_check_exchange(bytes(exchange, 30), &right);
+            if (right != (j - i == 127))
+                CHECK(right, j - i == 127);
+            accepted += right;
+            exchange[i / 8] ^= (uint8_t)(1u << (7 - i % 8));
+            if (j != i)
+                exchange[j / 8] ^= (uint8_t)(1u << (7 - j % 8));
+        }
+    CHECK(accepted, 113);
+    for (unsigned i = 0; i < 13; i++) { /* each cell at its place */
+        struct sb2_thirteen_set_up in = sprayer();
+        memset(in.cells, 0, sizeof in.cells);
+        in.cells[i] = 0xA55A;
+        t = thirteen_made(in);
+        CHECK(thirteen_hears(&t, true, BYTES(0x16, 0xF1, 0x17), 34, reply, &length), 0);
+        for (unsigned k = 0; k < 26; k++)
+            CHECK(reply[k], k == 2 * i ? 0x5A : k == 2 * i + 1 ? 0xA5 : 0);
+        memcpy(exchange + 3, reply, 26);
+        CHECK(reply[26], divided(bytes(exchange, 29)));
+    }
+}
+
+/* A right write turned in one to three bits is 3 or 5, never one of the answers to a right one. */
+static void thirteen_turned(void)
+{
+    static const uint8_t write[5] = {0x16, 0x4F, 0x61, 0x00, 0x32};
+    struct sb2_thirteen t = thirteen_made(sprayer());
+    unsigned tried = 0, taken = 0;
+    CHECK(thirteen_answers(&t, false, bytes(write, 5)), 8);
+    for (unsigned n = 0; n < 40 * 40 * 40; n++) {
+        unsigned i = n % 40, j = n / 40 % 40, k = n / 1600;
+        uint8_t turned[5];
+        if (j < i || k < j || (i == j && j < k)) /* i = j = k turns one bit, j = k two */
+            continue;
+        memcpy(turned, write, 5);
+        turned[i / 8] ^= (uint8_t)(1u << i % 8);
+        if (j != i)
+            turned[j / 8] ^= (uint8_t)(1u << j % 8);
+        if (k != j)
+            turned[k / 8] ^= (uint8_t)(1u << k % 8);
+        int answer = thirteen_answers(&t, false, bytes(turned, 5));
+        taken += answer != (turned[0] == 0x16 ? 5 : 3);
+        tried++;
+    }
+    CHECK(tried, 40 + 780 + 9880);
+    CHECK(taken, 0);
+}
+
+/* Each bound from both sides; the same of its area. */
+static void thirteen_sound(void)
+{
+#define THIRTEEN_SOUND(change, wanted)                             \
+    do {                                                           \
+        struct sb2_thirteen t = thirteen_made(small_sprayer(50));  \
+        uint8_t area[301];                                         \
+        change;                                                    \
+        CHECK(sb2_thirteen_sound(&t), wanted);                     \
+        sb2_area_thirteen_store(&t, area);                         \
+        CHECK(sb2_area_thirteen_sound(bytes(area, 301)), wanted);  \
+    } while (0)
+    THIRTEEN_SOUND(t.design_capacity = 1, true);
+    THIRTEEN_SOUND(t.design_capacity = 0, false);
+    THIRTEEN_SOUND(t.design_voltage = 1, true);
+    THIRTEEN_SOUND(t.design_voltage = 0, false);
+    THIRTEEN_SOUND((t.full_capacity = 1, t.charge = 0), true);
+    THIRTEEN_SOUND((t.full_capacity = 0, t.charge = 0), false);
+    THIRTEEN_SOUND(t.charge = 0, true);
+    THIRTEEN_SOUND(t.charge = 360000000, true); /* 100 x 3,600,000 */
+    THIRTEEN_SOUND(t.charge = 360000001, false);
+    THIRTEEN_SOUND(t.charge = UINT64_MAX, false);
+    THIRTEEN_SOUND((t.full_capacity = 65535, t.charge = UINT64_C(235926000000)), true); /* 65,535 x 3,600,000 */
+    THIRTEEN_SOUND((t.full_capacity = 65535, t.charge = UINT64_C(235926000001)), false);
+    THIRTEEN_SOUND(t.fully_discharged = true, true);
+    THIRTEEN_SOUND(t.minute.count = 60, true);
+    THIRTEEN_SOUND(t.minute.count = 61, false);
+    THIRTEEN_SOUND(t.minute.count = 255, false);
+    THIRTEEN_SOUND((t.minute.count = 1, t.minute.total[0] = 32767000), true);
+    THIRTEEN_SOUND((t.minute.count = 1, t.minute.total[0] = 32767001), false);
+    THIRTEEN_SOUND((t.minute.count = 1, t.minute.total[0] = -32768000), true);
+    THIRTEEN_SOUND((t.minute.count = 1, t.minute.total[0] = -32768001), false);
+    THIRTEEN_SOUND((t.minute.count = 60, t.minute.total[1] = -32768001), false); /* the oldest, the ring starting at 0 */
+    THIRTEEN_SOUND((t.minute.count = 59, t.minute.total[1] = -32768001), true);  /* not looked at */
+    THIRTEEN_SOUND(t.minute.total[0] = INT32_MAX, true);
+    THIRTEEN_SOUND(t.minute.begun_ms = 999, true);
+    THIRTEEN_SOUND(t.minute.begun_ms = 1000, false);
+    THIRTEEN_SOUND(t.minute.begun_total = 1, false);
+    THIRTEEN_SOUND(t.minute.begun_total = -1, false);
+    THIRTEEN_SOUND((t.minute.begun_ms = 1, t.minute.begun_total = 32767), true);
+    THIRTEEN_SOUND((t.minute.begun_ms = 1, t.minute.begun_total = 32768), false);
+    THIRTEEN_SOUND((t.minute.begun_ms = 999, t.minute.begun_total = -32735232), true); /* −32,768 x 999 */
+    THIRTEEN_SOUND((t.minute.begun_ms = 999, t.minute.begun_total = -32735233), false);
+    THIRTEEN_SOUND(t.error_code = 7, true);
+    THIRTEEN_SOUND(t.error_code = 8, false);
+    THIRTEEN_SOUND(t.error_code = 255, false);
+    THIRTEEN_SOUND(t.state_of_health = 65535, true);
+    THIRTEEN_SOUND((t.cells[0] = 0, t.cells[12] = 65535), true);
+    THIRTEEN_SOUND((t.latest = (struct sb2_sample){65535, -32768, 65535, 4294967295u}), true);
+}
+
+/* Refused as the first pack's is: all zero, which isn't sound; in an area what stood there stays. */
+static void thirteen_set_ups(void)
+{
+    struct sb2_thirteen t, none;
+    uint8_t area[301], kept[301];
+    memset(&none, 0, sizeof none);
+    CHECK(sb2_thirteen_sound(&none), false);
+    memset(area, 0xA5, sizeof area);
+    memcpy(kept, area, sizeof area);
+#define REFUSED(change)                                        \
+    do {                                                       \
+        struct sb2_thirteen_set_up in = sprayer();             \
+        change;                                                \
+        CHECK(sb2_thirteen_set_up(&t, &in), 11);               \
+        CHECK(same_thirteen(&t, &none), true);                 \
+        CHECK(sb2_area_thirteen_set_up(area, 301, &in), 11);   \
+        CHECK(memcmp(area, kept, 301), 0);                     \
+        CHECK(sb2_area_thirteen_set_up(area, 300, &in), 1);    \
+    } while (0)
+    REFUSED(in.design_capacity = 0);
+    REFUSED(in.design_voltage = 0);
+    REFUSED(in.full_capacity = in.remaining_capacity = 0);
+    REFUSED(in.remaining_capacity = 9701);
+    REFUSED(in.remaining_capacity = 65535);
+    REFUSED((in.full_capacity = 1, in.remaining_capacity = 2));
+    struct sb2_thirteen_set_up in = sprayer();
+    in.remaining_capacity = 9700;
+    t = thirteen_made(in);
+    CHECK(t.charge, UINT64_C(34920000000)); /* 9,700 x 3,600,000 */
+    in.design_capacity = in.full_capacity = in.remaining_capacity = in.design_voltage = 1;
+    t = thirteen_made(in);
+    CHECK(t.charge, 3600000);
+    in.full_capacity = 65535; /* above design */
+    in.remaining_capacity = 0;
+    in.state_of_health = 0;
+    t = thirteen_made(in);
+    CHECK(t.fully_discharged, true);
+    CHECK(t.minute.count, 0);
+    CHECK(t.minute.begun_ms, 0);
+}
+
+/* Each number at its place, after samples across the wrap: 3,600,000 and 798 mA·ms are 36F19E. */
+static void thirteen_area(void)
+{
+    static const uint8_t front[54] = {
+        2,    0x34, 0x12, 0x78, 0x56, 0xBC, 0x9A,                   /* code, design capacity and voltage, health */
+        0xD0, 0xB6, 0x9C, 0xFF, 0xA6, 0x0B, 0xEC, 0x08, 0,    0,    /* 46,800 mV, −100 mA, 2,982, 2,284 ms */
+        0x75, 0x0E, 0x76, 0x0E, 0x77, 0x0E, 0x78, 0x0E, 0x79, 0x0E, 0x7A, 0x0E, 0x7B, 0x0E,
+        0x7C, 0x0E, 0x7D, 0x0E, 0x7E, 0x0E, 0x7F, 0x0E, 0x80, 0x0E, 0x81, 0x0E,
+        0x9E, 0xF1, 0x36, 0,    0,    0,    0,    0,    0x01, 0x02, 0}; /* charge, full, bit 4 */
+    static const uint8_t newest_first[8] = {0xFE, 0xFF, 0xFF, 0xFF, 0xE8, 0x03, 0, 0}; /* −2 and 1,000 mA·ms */
+    static const uint8_t end[7] = {2, 0x2C, 0x01, 0x38, 0xFF, 0xFF, 0xFF};             /* 2; 300 ms; −200 mA·ms */
+    static const int32_t flows[6][2] = {{1, 1000}, {0, 800}, {1, 198}, {-100, 2}, {0, 298}, {-100, 2}};
+    struct sb2_thirteen_set_up in = sprayer();
+    struct sb2_thirteen t, back;
+    uint8_t area[301], again[301];
+    in.design_capacity = 0x1234;
+    in.design_voltage = 0x5678;
+    in.state_of_health = 0x9ABC;
+    in.full_capacity = 0x0201;
+    in.remaining_capacity = 1;
+    in.first = (struct sb2_sample){46800, 5, 2982, 0xFFFFFFF0u};
+    t = thirteen_made(in);
+    for (size_t i = 0; i < 6; i++)
+        thirteen_takes(&t, 46800, (int16_t)flows[i][0], 2982, (uint32_t)flows[i][1]);
+    CHECK(thirteen_answers(&t, true, BYTES(0x16, 0x17, 0x17)), 6);
+    memset(area, 0xA5, sizeof area);
+    sb2_area_thirteen_store(&t, area);
+    for (size_t i = 0; i < 54; i++)
+        CHECK(area[i], front[i]);
+    CHECK(memcmp(area + 54, newest_first, 8), 0);
+    for (size_t i = 62; i < 294; i++)
+        CHECK(area[i], 0);
+    CHECK(memcmp(area + 294, end, 7), 0);
+    CHECK(sb2_area_thirteen_load(bytes(area, 301), &back), true);
+    CHECK(same_thirteen(&t, &back), true);
+    CHECK(back.minute.begun_total, -200);
+    /* set up there, it is what the struct's store gives; bit 4 has its byte, and charge all eight */
+    in.remaining_capacity = 0;
+    CHECK(sb2_area_thirteen_set_up(again, 301, &in), 0);
+    t = thirteen_made(in);
+    sb2_area_thirteen_store(&t, area);
+    CHECK(memcmp(area, again, 301), 0);
+    CHECK(area[0], 0);
+    CHECK(area[53], 1);
+    for (size_t i = 54; i < 301; i++)
+        CHECK(area[i], 0); /* no second, none begun */
+    t.charge = UINT64_C(0x8877665544332211);
+    sb2_area_thirteen_store(&t, area);
+    for (unsigned i = 0; i < 8; i++)
+        CHECK(area[43 + i], 0x11 * (i + 1));
+    CHECK(sb2_area_thirteen_load(bytes(area, 301), &back) && back.charge == t.charge, true);
+}
+
+/* Each entry answers 1 to bytes that are no area or aren't sound, and leaves them and its room. */
+static void no_thirteen_at(int line, const uint8_t *given, size_t size)
+{
+    const struct sb2_thirteen_set_up in = sprayer();
+    uint8_t area[640], room[34];
+    size_t length = 9;
+    memcpy(area, given, sizeof area);
+    memset(room, 0xA5, sizeof room);
+    check_at(line, "sound", sb2_area_thirteen_sound(bytes(area, size)), false);
+    check_at(line, "sample", sb2_area_thirteen_sample(area, size, &in.first, in.cells), 1);
+    check_at(line, "read", sb2_area_thirteen_transact(area, size, true, BYTES(0x16, 9, 0x17), room, 34, &length), 1);
+    check_at(line, "length", (long long)length, 0);
+    check_at(line, "no room", sb2_area_thirteen_transact(area, size, false, nothing, room, 0, &length), 1);
+    if (size != 301)
+        check_at(line, "set-up", sb2_area_thirteen_set_up(area, size, &in), 1);
+    check_at(line, "area", memcmp(area, given, sizeof area), 0);
+    for (size_t i = 0; i < sizeof room; i++)
+        if (room[i] != 0xA5)
+            check_at(line, "room", room[i], 0xA5);
+}
+#define NO_THIRTEEN(area, size) no_thirteen_at(__LINE__, area, size)
+
+static void thirteen_no_area(void)
+{
+    struct sb2_thirteen_set_up in = sprayer();
+    uint8_t area[640];
+    memset(area, 0, sizeof area);
+    NO_THIRTEEN(area, 301); /* all zero isn't sound */
+    in.full_capacity = 65535;
+    in.remaining_capacity = 0;
+    CHECK(sb2_area_thirteen_set_up(area, 301, &in), 0);
+    CHECK(sb2_area_thirteen_sound(bytes(area, 301)), true);
+    for (size_t size = 0; size <= sizeof area; size++)
+        if (size != 301)
+            NO_THIRTEEN(area, size);
+    for (unsigned flag = 2; flag < 256; flag++) {
+        area[53] = (uint8_t)flag;
+        NO_THIRTEEN(area, 301);
+    }
+    area[53] = 1;
+    /* one byte FF: code; charge from 2^40 − 2^32, where full is 235,926,000,000; flag; count; ms from 65,280; a total
+     * of no ms */
+    for (unsigned at = 0; at < 301; at++) {
+        const uint8_t kept = area[at];
+        area[at] = 0xFF;
+        const bool bad = at == 0 || (at >= 47 && at <= 50) || at == 53 || at == 294 || at >= 296;
+        CHECK(sb2_area_thirteen_sound(bytes(area, 301)), !bad);
+        if (bad)
+            NO_THIRTEEN(area, 301);
+        area[at] = kept;
+    }
+}
+
+/* Beside the first pack, which learns nothing without a limit: on the same samples the same charge, bit 4, minute and
+ * words, byte by byte. */
+static void thirteen_beside(void)
+{
+    uint8_t area[SB2_AREA], cells[301], room[SB2_REPLY_ROOM], reply[SB2_REPLY_ROOM];
+    static const uint8_t shared[] = {0x08, 0x0D, 0x11, 0x13};
+    struct sb2_thirteen_set_up in = sprayer();
+    struct sb2_set_up first = usual;
+    size_t length, its_length;
+    first.design_capacity = in.design_capacity;
+    first.full_capacity = in.full_capacity = 300;
+    first.remaining_capacity = in.remaining_capacity = 40;
+    first.first = in.first;
+    CHECK(sb2_area_set_up(area, sizeof area, &first), 0);
+    CHECK(sb2_area_thirteen_set_up(cells, 301, &in), 0);
+    struct sb2_sample sample = in.first;
+    for (unsigned n = 0; n < 20000; n++) {
+        sample = draw_sample(sample.counter);
+        CHECK(sb2_area_take_sample(area, sizeof area, &sample, room, sizeof room, &length), 0);
+        CHECK(sb2_area_thirteen_sample(cells, 301, &sample, in.cells), 0);
+        CHECK(memcmp(area + SB2_LATEST_AT, cells + 7, 10), 0);
+        CHECK(memcmp(area + SB2_TANK_AT, cells + 43, 10), 0);
+        CHECK(area[SB2_TANK_AT + 12], cells[53]);
+        CHECK(memcmp(area + SB2_RECENT_AT, cells + 54, 247), 0);
+        const uint8_t command = shared[n % 4];
+        int answer = sb2_area_transact(area, sizeof area, true, BYTES(0x16, command, 0x17), NO_NAMES, NO_NAMES, room,
+                                       sizeof room, &length);
+        CHECK(sb2_area_thirteen_transact(cells, 301, true, BYTES(0x16, command, 0x17), reply, sizeof reply, &its_length),
+              answer);
+        CHECK(length == its_length && memcmp(room, reply, length) == 0, true);
+        CHECK(area[0], cells[0]);
+    }
+}
+
+static void thirteen(void)
+{
+    thirteen_words();
+    thirteen_tens();
+    thirteen_limits();
+    thirteen_full();
+    thirteen_temperatures();
+    thirteen_empty();
+    thirteen_samples();
+    thirteen_times();
+    thirteen_minute();
+    thirteen_commands();
+    thirteen_forms();
+    thirteen_rooms();
+    thirteen_codes();
+    thirteen_block();
+    thirteen_turned();
+    thirteen_sound();
+    thirteen_set_ups();
+    thirteen_area();
+    thirteen_no_area();
+}
+
 int main(void)
 {
     worked_examples();
@@ -3152,11 +4013,13 @@ int main(void)
     shelf();
     charger();
     edits();
+    thirteen();
     minutes_by_sums();
     either_choice();
     runs_by_history();
     long_work();
     many_edits();
+    thirteen_beside();
     printf("second: %u passed, %u failed\n", passed, failed);
     return failed == 0 ? 0 : 1;
 }

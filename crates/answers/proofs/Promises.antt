@@ -249,7 +249,7 @@ four-first false false wrong row = refl
 asks : (d : Side) (a b wrong read : Bool) (bytes : List ℕ) (checked : Bool)
     → requestAnswer d (cond a (Refused 3) (cond b (Refused 4) (cond (not read && (checked && wrong)) (Refused 5) (cond read (Read (getD bytes 1 0)) (writeOf bytes checked)))))
     ≡ cond a 3 (cond (b || (not read && bare d checked)) 4
-        (cond (not read && (checked && wrong)) 5 (cond read (readAnswer d (commandOf bytes) (d .kinds (commandOf bytes))) (writeAnswer (d .kinds (commandOf bytes))))))
+    (cond (not read && (checked && wrong)) 5 (cond read (readAnswer d (commandOf bytes) (d .kinds (commandOf bytes))) (writeAnswer (d .kinds (commandOf bytes))))))
 asks d true b wrong read bytes checked = refl
 asks d false true wrong read bytes checked = refl
 asks d false false wrong true bytes checked = refl

@@ -96,6 +96,19 @@ pub fn put_block(room: &mut [u8], request: &[u8], text: &[u8]) -> usize
     n + 2
 }
 
+// A reply of bytes without a count at the front of the room; its length.
+pub fn put_body(room: &mut [u8], request: &[u8], body: &[u8]) -> usize
+    requires { ⌜ length (now body) + 1 ≤ length (now room) ⌝ }
+    ensures result { λ r. ⌜ r ≡ length (replyOf (now (request .entry)) (now (body .entry))) ⌝ }
+    ensures memory { λ r. ⌜ now (room .exit) ≡ placed (replyOf (now (request .entry)) (now (body .entry))) (now (room .entry)) ⌝ }
+{
+    let n = body.len();
+    let check = pec::pec_from(pec::pec(request), body);
+    rooms::put_bytes(room, 0, body);
+    room[n] = check;
+    n + 1
+}
+
 // A broadcast message: a word under a command, for an address.
 pub struct Message {
     pub address: u8,

@@ -128,7 +128,8 @@ fn timers_sound(h: Host, t: Timers) -> bool
         & agree(t.hold == 0, !h.AlarmMode)
 }
 
-fn error_sound(code: u8) -> bool
+// Only our own crates call it.
+pub fn error_sound(code: u8) -> bool
     ensures { λ r. ⌜ r ≡ errorSound code ⌝ }
 {
     code <= 7

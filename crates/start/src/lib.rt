@@ -121,7 +121,8 @@ pub fn zero() -> State
     }
 }
 
-fn refused(u: Setup) -> bool
+// The conditions of answer 11. Only our own crates call it.
+pub fn refused(u: Setup) -> bool
     ensures { λ r. ⌜ r ≡ setUpRefused u ⌝ }
 {
     (u.DesignCapacity == 0) | (u.full == 0) | (u.DesignVoltage == 0) | (u.full < u.remaining)

@@ -20,7 +20,7 @@ struct Level {
 }
 
 // What flows: current × elapsed, in mA·ms.
-fn flowed(current: u16, elapsed: u32) -> u64
+pub fn flowed(current: u16, elapsed: u32) -> u64
     ensures is { λ r. ⌜ r ≡ sizeOf current * elapsed ⌝ }
     ensures small { λ r. ⌜ r ≤ 32768 * 4294967295 ⌝ }
 {
@@ -44,7 +44,8 @@ fn more(charge: u64, flow: u64, top: u64) -> u64
     }
 }
 
-fn moved(charge: u64, top: u64, falls: bool, flow: u64) -> u64
+// Charge after what flows, between 0 and the top.
+pub fn moved(charge: u64, top: u64, falls: bool, flow: u64) -> u64
     requires { ⌜ charge ≤ top ⌝ }
     ensures { λ r. ⌜ r ≡ cond falls (charge - flow) (min top (charge + flow)) ⌝ }
 {
