@@ -1,7 +1,7 @@
 /* The thirteen-cell pack of source document 001: its own commands and words over the first pack's clock and charge.
  *
- * What both share isn't written again. For a sample, a percentage or a time it is looked at as a first pack that no host
- * wrote to, and what that one sends and counts is dropped. */
+ * What both share isn't written again. For a sample, a percentage or a time it is looked at as a first pack that no
+ * host wrote to, and what that one sends and counts is dropped. */
 #include "inside.h"
 
 #include <string.h>
@@ -174,7 +174,7 @@ static struct sb2_shown shown(const struct sb2_thirteen *t, uint8_t command)
     }
 }
 
-/* Puts a word, or of F1 the thirteen with no count before them, and the PEC: answers 10 where it was cut off, else 0. */
+/* Puts a word, or of F1 thirteen with no count before them, and the PEC: answers 10 where it was cut off, else 0. */
 static int serve_read(const struct sb2_thirteen *t, struct sb2_bytes message, uint8_t *room, size_t *length)
 {
     size_t place = 0;

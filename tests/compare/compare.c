@@ -361,13 +361,13 @@ enum other {
     E_REFUSED = E_SERVED + 161, E_STATED = E_REFUSED + 161, E_CUT = E_STATED + 2 * 6, E_BENT = E_CUT + 2,
     E_ORDER = E_BENT + 2, T_READ = E_ORDER + 6, T_COMMAND = T_READ + 22, T_WRITE = T_COMMAND + 256,
     T_FOUR = T_WRITE + 256, T_WRONG = T_FOUR + 256, T_STATUS_SET = T_WRONG + 256, T_STATUS_CLEAR = T_STATUS_SET + 16,
-    T_EDGE = T_STATUS_CLEAR + 16, T_DEGREES = T_EDGE + 3 * T_EDGES, T_CURRENT = T_DEGREES + 18, T_VOLTAGE = T_CURRENT + 7,
-    T_CELL = T_VOLTAGE + 4, T_TIME = T_CELL + 13, T_TIME_BORDER = T_TIME + 6, T_MEAN = T_TIME_BORDER + 8,
-    T_PERCENT = T_MEAN + 2, T_STAYS = T_PERCENT + 4, T_SET_UP = T_STAYS + 3, T_CHARGE = T_SET_UP + 7,
-    T_BIT_4 = T_CHARGE + 5, T_DONE = T_BIT_4 + 6, T_KEPT = T_DONE + 7, T_GAP = T_KEPT + 3, T_WRAP = T_GAP + 8, T_BENT,
-    T_DAMAGED = T_BENT + T_BENDS, T_LENGTH = T_DAMAGED + 2, T_ROOM = T_LENGTH + 4 * 5, T_ADDRESS = T_ROOM + 2 * 41,
-    T_FORM = T_ADDRESS + 4, T_BOTH = T_FORM + 3, T_ALTERED = T_BOTH + 28, T_EXCHANGE = T_ALTERED + 4,
-    OTHERS = T_EXCHANGE + 5
+    T_EDGE = T_STATUS_CLEAR + 16, T_DEGREES = T_EDGE + 3 * T_EDGES, T_CURRENT = T_DEGREES + 18,
+    T_VOLTAGE = T_CURRENT + 7, T_CELL = T_VOLTAGE + 4, T_TIME = T_CELL + 13, T_TIME_BORDER = T_TIME + 6,
+    T_MEAN = T_TIME_BORDER + 8, T_PERCENT = T_MEAN + 2, T_STAYS = T_PERCENT + 4, T_SET_UP = T_STAYS + 3,
+    T_CHARGE = T_SET_UP + 7, T_BIT_4 = T_CHARGE + 5, T_DONE = T_BIT_4 + 6, T_KEPT = T_DONE + 7, T_GAP = T_KEPT + 3,
+    T_WRAP = T_GAP + 9, T_BENT, T_DAMAGED = T_BENT + T_BENDS, T_LENGTH = T_DAMAGED + 2, T_ROOM = T_LENGTH + 4 * 5,
+    T_ADDRESS = T_ROOM + 2 * 41, T_FORM = T_ADDRESS + 4, T_BOTH = T_FORM + 3, T_ALTERED = T_BOTH + 28,
+    T_EXCHANGE = T_ALTERED + 4, OTHERS = T_EXCHANGE + 5
 };
 static uint64_t other[OTHERS];
 
@@ -3176,7 +3176,8 @@ static uint64_t thirteen_number(size_t at, size_t bytes)
 static struct sb2_sample thirteen_latest(void)
 {
     return (struct sb2_sample){(uint16_t)thirteen_number(T_LATEST_AT, 2), (int16_t)thirteen_number(T_LATEST_AT + 2, 2),
-                               (uint16_t)thirteen_number(T_LATEST_AT + 4, 2), (uint32_t)thirteen_number(T_COUNTER_AT, 4)};
+                               (uint16_t)thirteen_number(T_LATEST_AT + 4, 2),
+                               (uint32_t)thirteen_number(T_COUNTER_AT, 4)};
 }
 
 static uint64_t thirteen_full(void)
@@ -3347,14 +3348,14 @@ static struct sb2_sample thirteen_measured(uint32_t counter)
 
 static void play_thirteen_time(size_t length)
 {
-    static const uint32_t gaps[6] = {0, 1, 999, 1000, 60000, 61000};
-    unsigned class = one_in(2) ? 3 : below(8);
+    static const uint32_t gaps[7] = {0, 1, 999, 1000, 59000, 60000, 61000};
+    unsigned class = one_in(2) ? 3 : below(9);
     uint32_t before = (uint32_t)thirteen_number(T_COUNTER_AT, 4);
-    uint32_t gap = class == 7 ? 0u - before + below(1000) : 3600000u * (1 + below(1192)) + below(2000);
+    uint32_t gap = class == 8 ? 0u - before + below(1000) : 3600000u * (1 + below(1192)) + below(2000);
     uint16_t cells[SB2_CELLS];
     some_cells(cells);
     bool served = length == SB2_THIRTEEN_AREA && sb2_area_thirteen_sound(thirteen_bytes());
-    play_thirteen_sample(thirteen_measured(before + (class < 6 ? gaps[class] : gap)), cells, length);
+    play_thirteen_sample(thirteen_measured(before + (class < 7 ? gaps[class] : gap)), cells, length);
     if (served)
         other[T_GAP + class]++;
 }
@@ -3395,7 +3396,8 @@ static void note_thirteen_edges(struct sb2_sample latest, uint16_t word)
         if (apart < -1 || apart > 1 || latest.current < status_edges[i].least_current ||
             latest.current > status_edges[i].most_current || latest.voltage < status_edges[i].least_voltage)
             continue;
-        expect((word >> status_edges[i].bit & 1) == (apart == 0 || (apart > 0) == status_edges[i].above), "a bit at its border");
+        bool wanted = apart == 0 || (apart > 0) == status_edges[i].above;
+        expect((word >> status_edges[i].bit & 1) == wanted, "a bit at its border");
         other[T_EDGE + 3 * i + (size_t)(apart + 1)]++;
     }
 }
@@ -3447,7 +3449,8 @@ static void note_thirteen_time(uint8_t command, uint16_t word, int answer)
 /* 09 and 0A by what they were rounded from. */
 static void note_thirteen_tens(uint8_t command, uint16_t word)
 {
-    int32_t from = command == 0x09 ? thirteen_latest().voltage : thirteen_latest().current, size = from < 0 ? -from : from;
+    struct sb2_sample latest = thirteen_latest();
+    int32_t from = command == 0x09 ? latest.voltage : latest.current, size = from < 0 ? -from : from;
     if (command == 0x09)
         other[T_VOLTAGE + (from < 10 ? 0 : from == 65535 ? 3 : from % 10 == 0 ? 1 : 2)]++;
     else if (size < 10)
@@ -3659,12 +3662,20 @@ static void play_thirteen_life(void)
     (void)play_thirteen_sound(thirteen_size());
 }
 
-/* A run of samples, a current staying for one or for many, and the words that show it after each. */
+/* A sample with any cells, then a word that shows it. */
+static void play_thirteen_shown(struct sb2_sample sample, uint8_t command)
+{
+    uint16_t cells[SB2_CELLS];
+    some_cells(cells);
+    play_thirteen_sample(sample, cells, SB2_THIRTEEN_AREA);
+    play_thirteen_read(command);
+}
+
+/* A run of samples, a current staying for one or for many, and a word after each. */
 static void play_thirteen_run(void)
 {
     static const uint8_t commands[4] = {0x0D, 0x11, 0x13, 0x16};
     uint32_t stay = one_in(2) ? 1 : 60, step = one_in(2) ? 1000 : 1 + below(2500);
-    uint16_t cells[SB2_CELLS];
     play_likely_thirteen();
     if (one_in(3))
         put_thirteen(T_COUNTER_AT, 4, 0u - below(20000));
@@ -3673,16 +3684,13 @@ static void play_thirteen_run(void)
         if (one_in(stay))
             sample.current = run_current();
         sample.counter = (uint32_t)thirteen_number(T_COUNTER_AT, 4) + (one_in(8) ? some_elapsed() : step);
-        some_cells(cells);
-        play_thirteen_sample(sample, cells, SB2_THIRTEEN_AREA);
-        play_thirteen_read(commands[below(4)]);
+        play_thirteen_shown(sample, commands[below(4)]);
     }
 }
 
 /* A charge that a sample brings to 0 or to full exactly, or one mA·ms off it. */
 static void play_thirteen_ends(void)
 {
-    uint16_t cells[SB2_CELLS];
     for (int fill_up = 0; fill_up < 2; fill_up++)
         for (uint64_t apart = 0; apart < 3; apart++) {
             struct sb2_sample sample = thirteen_measured(0);
@@ -3694,16 +3702,13 @@ static void play_thirteen_ends(void)
             put_thirteen(T_CHARGE_AT, 8, fill_up ? thirteen_full() - flows : flows);
             sample.current = (int16_t)(fill_up ? current : -current);
             sample.counter = (uint32_t)thirteen_number(T_COUNTER_AT, 4) + elapsed;
-            some_cells(cells);
-            play_thirteen_sample(sample, cells, SB2_THIRTEEN_AREA);
-            play_thirteen_read(0x16);
+            play_thirteen_shown(sample, 0x16);
         }
 }
 
 /* A sample at each border of each bit and one off it, then the status. */
 static void play_thirteen_edges(void)
 {
-    uint16_t cells[SB2_CELLS];
     play_likely_thirteen();
     for (size_t i = 0; i < 3 * T_EDGES; i++) {
         int32_t least = status_edges[i / 3].least_current, wide = status_edges[i / 3].most_current - least;
@@ -3718,9 +3723,7 @@ static void play_thirteen_edges(void)
             sample.current = (int16_t)at;
         else
             sample.temperature = (uint16_t)at;
-        some_cells(cells);
-        play_thirteen_sample(sample, cells, SB2_THIRTEEN_AREA);
-        play_thirteen_read(0x16);
+        play_thirteen_shown(sample, 0x16);
     }
 }
 
@@ -3728,16 +3731,28 @@ static void play_thirteen_edges(void)
 static void play_thirteen_degrees(void)
 {
     static const uint16_t degrees[6] = {2731, 2732, 3231, 3232, 3331, 3332};
-    uint16_t cells[SB2_CELLS];
     play_likely_thirteen();
     for (size_t i = 0; i < 18; i++) {
         struct sb2_sample sample = thirteen_measured((uint32_t)thirteen_number(T_COUNTER_AT, 4));
         int32_t size = 1 + (int32_t)below(32767);
         sample.temperature = degrees[i / 3];
         sample.current = (int16_t)(i % 3 == 0 ? -size : i % 3 == 1 ? 0 : size);
-        some_cells(cells);
-        play_thirteen_sample(sample, cells, SB2_THIRTEEN_AREA);
-        play_thirteen_read(0x16);
+        play_thirteen_shown(sample, 0x16);
+    }
+}
+
+/* 09 and 0A of what rounds to 0, of whole tens and one off them, and of the ends. */
+static void play_thirteen_tens(void)
+{
+    static const uint16_t voltages[11] = {0, 1, 9, 10, 11, 19, 20, 54799, 54800, 65534, 65535};
+    static const int16_t currents[11] = {-32768, -11, -10, -9, -1, 0, 1, 9, 10, 11, 32767};
+    play_likely_thirteen();
+    for (size_t i = 0; i < 11; i++) {
+        struct sb2_sample sample = thirteen_measured((uint32_t)thirteen_number(T_COUNTER_AT, 4) + below(1000));
+        sample.voltage = voltages[i];
+        sample.current = currents[i];
+        play_thirteen_shown(sample, 0x09);
+        play_thirteen_read(0x0A);
     }
 }
 
@@ -3765,17 +3780,17 @@ static void play_thirteen_times(void)
         play_likely_thirteen();
         if (i / 2 < TIME_BORDERS)
             capacity = capacity_of(FIRST_BORDER + i / 2, &rate);
-        int32_t flows = i / 2 < TIME_BORDERS + 1 ? (int32_t)rate : i / 2 == TIME_BORDERS + 1 ? 1 : -(int32_t)below(32768);
-        put_thirteen_to_go(fill_up, capacity, flows);
+        const int32_t others[2] = {1, -(int32_t)below(32768)};
+        put_thirteen_to_go(fill_up, capacity, i / 2 <= TIME_BORDERS ? (int32_t)rate : others[i / 2 - TIME_BORDERS - 1]);
         play_thirteen_read(fill_up ? 0x13 : 0x11);
     }
 }
 
-/* 16 commands in their turn: read, written, written with a wrong PEC and with none. */
+/* Eight commands in their turn: read, written, written with a wrong PEC and with none. */
 static void play_thirteen_commands(void)
 {
     static uint8_t next;
-    for (int i = 0; i < 16; i++, next++) {
+    for (int i = 0; i < 8; i++, next++) {
         uint8_t message[5];
         put_write(message, next, some_word());
         play_thirteen_read(next);
@@ -3790,7 +3805,7 @@ static void play_thirteen_commands(void)
     }
 }
 
-/* Rooms of 0 to 40 bytes, of which 34 are enough, for a read and a write; at times in an area that isn't sound. */
+/* Rooms of 0 to 40 bytes, of which 34 are enough, for a read and a write. */
 static void play_thirteen_rooms(void)
 {
     for (size_t room_length = 0; room_length <= 40; room_length++) {
@@ -3812,7 +3827,7 @@ static void play_thirteen_altered(void)
         put_write(message, command, word);
         alter(message, 5, bits);
         int answer = play_thirteen_message(message, 5, false, SB2_THIRTEEN_AREA, SB2_REPLY_ROOM);
-        compare(answer == SB2_NOT_FOR_PACK || answer == SB2_WRONG_PEC, bits > 0);
+        expect((answer == SB2_NOT_FOR_PACK || answer == SB2_WRONG_PEC) == (bits > 0), "a write, altered or not");
         other[T_ALTERED + bits]++;
     }
 }
@@ -3826,7 +3841,7 @@ static void play_whole_exchange(const uint8_t *bytes, size_t length, bool right)
     begin("exchange_check", 1, NO_AREA, false);
     int answer = sb2_check_exchange(exchange, &accepted);
     compare(snatchblock_exchange_check(exchange.at, length), (uint32_t)answer | (uint32_t)accepted << 8);
-    compare(accepted, right);
+    expect(accepted == right, "an exchange, altered or not");
     came_up(EXCHANGE, (uint32_t)answer);
 }
 
@@ -3975,7 +3990,10 @@ static void play_thirteen_set_ups(void)
         case 0: in.design_capacity = 0; break;
         case 1: in.design_voltage = 0; break;
         case 2: in.full_capacity = in.remaining_capacity = 0; break;
-        case 3: in.full_capacity -= in.full_capacity == 65535, in.remaining_capacity = (uint16_t)(in.full_capacity + 1); break;
+        case 3:
+            in.full_capacity = (uint16_t)(1 + below(65534));
+            in.remaining_capacity = (uint16_t)(in.full_capacity + 1);
+            break;
         default: break;
         }
         play_thirteen_set_up(&in, thirteen_size());
@@ -3990,7 +4008,6 @@ static void play_thirteen(void)
         play_thirteen_commands();
         play_thirteen_sizes();
         play_thirteen_set_ups();
-        play_thirteen_times();
         play_thirteen_exchange();
     }
     for (int i = 0; i < 4; i++) {
@@ -3998,10 +4015,12 @@ static void play_thirteen(void)
         some_thirteen();
         play_thirteen_altered();
     }
-    some_thirteen();
-    play_thirteen_rooms();
+    if (one_in(2))
+        play_thirteen_rooms();
     play_thirteen_edges();
     play_thirteen_degrees();
+    play_thirteen_tens();
+    play_thirteen_times();
     play_thirteen_ends();
     play_thirteen_bends();
 }
@@ -4293,8 +4312,8 @@ static bool tally(void)
         {"bit 4 set: the same", T_BIT_4 + 3, T_BIT_4 + 5},
         {"samples that complete 0, 1, 2 to 58, 59 to 61, more s", T_DONE, T_DONE + 6},
         {"0, 1 to 59, 60 seconds kept", T_KEPT, T_KEPT + 2},
-        {"gaps of 0, 1, 999, 1,000, 60,000, 61,000", T_GAP, T_GAP + 5},
-        {"of hours, over the wrap", T_GAP + 6, T_GAP + 7},
+        {"gaps of 0, 1, 999, 1,000, 59,000, 60,000, 61,000", T_GAP, T_GAP + 6},
+        {"of hours, over the wrap", T_GAP + 7, T_GAP + 8},
         {"samples over the counter's wrap", T_WRAP, T_WRAP},
         {"areas bent in one way: code, charge, 0, the minute", T_BENT, T_BENT + 19},
         {"its flag: 0, 1, 2, others", T_BENT + 20, T_BENT + 23},

@@ -3275,9 +3275,9 @@ static void thirteen_words(void)
 /* 09 is rounded down, 0A cut toward zero, both in tens. */
 static void thirteen_tens(void)
 {
-    static const int32_t voltages[][2] = {{0, 0}, {9, 0}, {10, 1}, {19, 1}, {54799, 5479}, {54800, 5480}, {65535, 6553}};
-    static const int32_t currents[][2] = {{0, 0},     {9, 0},     {10, 1},    {19, 1},           {32767, 3276}, {-1, 0},
-                                          {-9, 0},    {-10, -1},  {-11, -1},  {-19, -1},         {-20, -2},     {-99, -9},
+    static const int32_t voltages[][2] = {{0, 0}, {9, 0}, {10, 1}, {19, 1}, {54799, 5479}, {65535, 6553}};
+    static const int32_t currents[][2] = {{0, 0},    {9, 0},    {10, 1},   {19, 1},   {32767, 3276},   {-1, 0},
+                                          {-9, 0},   {-10, -1}, {-11, -1}, {-19, -1}, {-20, -2},       {-99, -9},
                                           {-100, -10}, {-32760, -3276}, {-32768, -3276}};
     struct sb2_thirteen t = thirteen_made(sprayer());
     for (size_t i = 0; i < sizeof voltages / sizeof *voltages; i++) {
@@ -3537,7 +3537,8 @@ static void thirteen_commands(void)
     unsigned served = 0, not_built = 0;
     for (unsigned command = 0; command < 256; command++) {
         const uint8_t named = (uint8_t)command;
-        const bool left_out = command == 0 || command == 0x80 || command == 0x81 || (command >= 0xA0 && command <= 0xA2);
+        const bool update = command >= 0xA0 && command <= 0xA2;
+        const bool left_out = command == 0 || command == 0x80 || command == 0x81 || update;
         const int refused = left_out ? 7 : 6;
         struct sb2_thirteen t = thirteen_made(sprayer());
         uint8_t message[5] = {0x16, named, 0x10, 0x00, 0};
@@ -3652,8 +3653,9 @@ static void thirteen_codes(void)
 /* F1: 26 bytes with no count before them; its exchange of 30 bytes ends in their PEC. */
 static void thirteen_block(void)
 {
-    static const uint8_t wanted[27] = {0x75, 0x0E, 0x76, 0x0E, 0x77, 0x0E, 0x78, 0x0E, 0x79, 0x0E, 0x7A, 0x0E, 0x7B, 0x0E,
-                                       0x7C, 0x0E, 0x7D, 0x0E, 0x7E, 0x0E, 0x7F, 0x0E, 0x80, 0x0E, 0x81, 0x0E, 0x3C};
+    static const uint8_t wanted[27] = {0x75, 0x0E, 0x76, 0x0E, 0x77, 0x0E, 0x78, 0x0E, 0x79, 0x0E, 0x7A, 0x0E, 0x7B,
+                                       0x0E, 0x7C, 0x0E, 0x7D, 0x0E, 0x7E, 0x0E, 0x7F, 0x0E, 0x80, 0x0E, 0x81, 0x0E,
+                                       0x3C};
     struct sb2_thirteen t = thirteen_made(sprayer());
     uint8_t reply[SB2_REPLY_ROOM], exchange[30] = {0x16, 0xF1, 0x17};
     size_t length, accepted = 0;
@@ -3751,7 +3753,7 @@ static void thirteen_sound(void)
     THIRTEEN_SOUND((t.minute.count = 1, t.minute.total[0] = 32767001), false);
     THIRTEEN_SOUND((t.minute.count = 1, t.minute.total[0] = -32768000), true);
     THIRTEEN_SOUND((t.minute.count = 1, t.minute.total[0] = -32768001), false);
-    THIRTEEN_SOUND((t.minute.count = 60, t.minute.total[1] = -32768001), false); /* the oldest, the ring starting at 0 */
+    THIRTEEN_SOUND((t.minute.count = 60, t.minute.total[1] = -32768001), false); /* the oldest, the newest at 0 */
     THIRTEEN_SOUND((t.minute.count = 59, t.minute.total[1] = -32768001), true);  /* not looked at */
     THIRTEEN_SOUND(t.minute.total[0] = INT32_MAX, true);
     THIRTEEN_SOUND(t.minute.begun_ms = 999, true);
@@ -3941,11 +3943,10 @@ static void thirteen_beside(void)
         CHECK(memcmp(area + SB2_TANK_AT, cells + 43, 10), 0);
         CHECK(area[SB2_TANK_AT + 12], cells[53]);
         CHECK(memcmp(area + SB2_RECENT_AT, cells + 54, 247), 0);
-        const uint8_t command = shared[n % 4];
-        int answer = sb2_area_transact(area, sizeof area, true, BYTES(0x16, command, 0x17), NO_NAMES, NO_NAMES, room,
-                                       sizeof room, &length);
-        CHECK(sb2_area_thirteen_transact(cells, 301, true, BYTES(0x16, command, 0x17), reply, sizeof reply, &its_length),
-              answer);
+        const uint8_t ask[3] = {0x16, shared[n % 4], 0x17};
+        int answer = sb2_area_transact(area, sizeof area, true, bytes(ask, 3), NO_NAMES, NO_NAMES, room, sizeof room,
+                                       &length);
+        CHECK(sb2_area_thirteen_transact(cells, 301, true, bytes(ask, 3), reply, sizeof reply, &its_length), answer);
         CHECK(length == its_length && memcmp(room, reply, length) == 0, true);
         CHECK(area[0], cells[0]);
     }

@@ -3,16 +3,13 @@
 use mathlib.Core.Path.{refl, sym, ap, _∙_}
 use mathlib.Core.Bool.{true, false}
 use mathlib.Core.List.{List, _++_}
-use Prim.Native.Nat.{ℕ, zero, suc, _+_, _^_, _≤_}
+use Prim.Native.Nat.{zero, _+_, _≤_}
 use native.Mathlib.Omega.{arith}
 use borrow.Author.Tests.{eq-eqb, le-leb}
-use lib.ListN.{replicate}
 use Rattle.rooms.specs.Rooms.{Bytes, between}
 use Rattle.area.specs.Area.{settingsAt, hostAt, latestAt, tankAt, timersAt, recentAt, areaLength, areaOf, stateIn}
-use Rattle.recent.specs.Fits.{Below}
-use Rattle.numbers.specs.Numbers.{numbersAt}
 use Rattle.area_parts.specs.Parts.{settingsBytes, hostBytes, latestBytes, tankBytes, timersBytes, recentBytes, recentIn}
-use Rattle.numbers.proofs.Numbers.{bytes-between, number-fits}
+use Rattle.numbers.proofs.Numbers.{bytes-between, number-fits, numbers-fit}
 use Rattle.area.proofs.Whole.{held, read-back}
 use Rattle.area_laws.specs.Laws.{AreasTell, HeldInArea, StatesTell, SoundGoesIn, ErrorFirst, minuteAnew, AreaAnew, SoundAnew, countsAnew, AreaWithoutCounts, SoundWithoutCounts, AreaAs, SoundAs}
 use Rattle.pack.proofs.Soundness.{count-of-sound, parts, pack-of-sound, pack-sound, code-of-sound, sound-state, settings-facts, toward-sound, run-sound}
@@ -23,11 +20,6 @@ use Rattle.pack.specs.declared.Pack.{Pack}
 
 pub areas-tell : AreasTell
 areas-tell a b ba bb ia ib e = sym (held a ba ia) ∙ ap areaOf e ∙ held b bb ib
-
--- numbers of one width are each within it
-numbers-fit : (width : ℕ) (l : List ℕ) → Bytes l → (n at : ℕ) → Below (256 ^ width) (numbersAt (replicate n width) l at)
-numbers-fit width l b zero at = tt
-numbers-fit width l b (suc n) at = (number-fits l b width at, numbers-fit width l b n (at + width))
 
 pub held-in-area : HeldInArea
 unfolding stateIn recentIn
@@ -61,7 +53,7 @@ held-in-area a b =
                   recent =
                       record {
                         sixty = refl;
-                        totals = numbers-fit 4 (between a recentAt areaLength) (bytes-between a b recentAt areaLength) 60 0;
+                        totals = numbers-fit (between a recentAt areaLength) (bytes-between a b recentAt areaLength) 4 60 0;
                         count = omega (arith, recent 1 240);
                         begun = recent 2 241;
                         total = recent 4 243;

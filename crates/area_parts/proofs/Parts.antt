@@ -99,7 +99,7 @@ timers-back t f = ap timersFrom (numbers-back timersWidths (timersNumbers t) (ti
 
 -- ---- the recent minute
 
-numbers-bytes-length : (widths values : List ℕ) → length widths ≡ length values → length (numbersBytes widths values) ≡ bytesTaken widths
+pub numbers-bytes-length : (widths values : List ℕ) → length widths ≡ length values → length (numbersBytes widths values) ≡ bytesTaken widths
 numbers-bytes-length [] values e = refl
 numbers-bytes-length (n ∷ widths) [] e = absurd (omega (arith, e))
 numbers-bytes-length (n ∷ widths) (v ∷ values) e =
@@ -112,7 +112,7 @@ numbers-bytes-append (n ∷ ns) [] ms ws e = absurd (omega (arith, e))
 numbers-bytes-append (n ∷ ns) (v ∷ vs) ms ws e = rw (numbers-bytes-append ns vs ms ws (omega (arith, e))) (sym (append-assoc (numberBytes n v) (numbersBytes ns vs) (numbersBytes ms ws)))
 
 -- numbers of one width, then others
-numbers-within : (width n : ℕ) (values ms ws : List ℕ) → length values ≡ n → Below (256 ^ width) values → Within ms ws
+pub numbers-within : (width n : ℕ) (values ms ws : List ℕ) → length values ≡ n → Below (256 ^ width) values → Within ms ws
     → Within (replicate n width ++ ms) (values ++ ws)
 numbers-within width zero [] ms ws e f h = h
 numbers-within width zero (v ∷ values) ms ws e f h = absurd (omega (arith, e))

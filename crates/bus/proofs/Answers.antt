@@ -13,10 +13,7 @@ use Rattle.frame.specs.Transactions.{replyOf, wordBody}
 use Rattle.frame.specs.declared.Request.{Request}
 use Rattle.frame.specs.declared.Request.the-variants.{Refused, Read, Write}
 use Rattle.gauge.specs.Word.{givenOf, wordOf}
-use Rattle.minutes.specs.Minutes.{givenAnswer}
-use Rattle.minutes.specs.declared.Given.{Given}
-use Rattle.minutes.specs.declared.Given.the-variants.{Word, Until, NoTime}
-use Rattle.minutes.specs.declared.Time.the-variants.{Minutes, Beyond, NotMoving}
+use Rattle.minutes.proofs.Laws.{zero-or-ten}
 use Rattle.pack.specs.Sound.{soundOf}
 use Rattle.pack.specs.declared.Pack.{Pack}
 use Rattle.pack.specs.declared.State.{State}
@@ -97,13 +94,6 @@ by-request s service factory read bytes room request sound fits e = (
 
 -- ---- a word read is served, with answer 0 or 10
 
-word-served : (g : Given) (reply : List ℕ) → reply ≡ cond (served (givenAnswer g)) reply []
-word-served (Word w) reply = refl
-word-served (Until (Minutes m)) reply = refl
-word-served (Until Beyond) reply = refl
-word-served (Until NotMoving) reply = refl
-word-served NoTime reply = refl
-
 pub word-reply : (s : State) (service factory bytes : List ℕ) (command : ℕ)
     → replyOf bytes (wordBody (wordOf s command)) ≡ rowReply (packSide s service factory) bytes command ReadOnly
-word-reply s service factory bytes command = word-served (givenOf s command) (replyOf bytes (wordBody (wordOf s command)))
+word-reply s service factory bytes command = commands.served-reply (zero-or-ten (givenOf s command)) (replyOf bytes (wordBody (wordOf s command)))

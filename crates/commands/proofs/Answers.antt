@@ -3,7 +3,8 @@
 use Prim.Native.Nat.{ℕ, _+_, _<_, _≤_}
 use mathlib.Core.Bool.{Bool, true, false, cond, not}
 use mathlib.Core.List.{List, []}
-use mathlib.Core.Path.{_≡_, refl, ap}
+use mathlib.Core.Logic.{_⊎_, inl, inr}
+use mathlib.Core.Path.{_≡_, refl, sym, ap}
 use native.Mathlib.Omega.{arith}
 use borrow.Author.Tests.{lt-ltb, le-ltb}
 use lib.Dec.{ltb}
@@ -34,6 +35,11 @@ pub refused-reply : (d : Side) (bytes : List ℕ) (request : Request) (answer : 
 refused-reply d bytes (Refused n) answer e = refl
 refused-reply d bytes (Read command) answer e = ap (λ (b : Bool). cond b (sideReply d bytes (Read command) 0) []) e
 refused-reply d bytes (Write command word checked) answer e = refl
+
+-- and what is answered 0 or 10 is served
+pub served-reply : {answer : ℕ} → (answer ≡ 0) ⊎ (answer ≡ 10) → (reply : List ℕ) → reply ≡ cond (served answer) reply []
+served-reply (inl e) reply = ap (λ (n : ℕ). cond (served n) reply []) (sym e)
+served-reply (inr e) reply = ap (λ (n : ℕ). cond (served n) reply []) (sym e)
 
 -- what a read shows is a word of two bytes, or a block's bytes
 body-most : (d : Side) (most command : ℕ) (k : Kind) → 2 ≤ most → length (d .block command) ≤ most → length (readBody d command k) ≤ most

@@ -2,11 +2,12 @@
 -- Assumes nothing.
 use Prim.Native.Nat.{ℕ, _*_, _/_, _≤_, _<_}
 use mathlib.Core.Bool.{Bool, true, false, cond, _||_}
+use mathlib.Core.Logic.{inl, inr}
 use mathlib.Core.Path.{_≡_, refl, ap}
 use borrow.Author.Tests.{ltb-false}
 use native.Mathlib.Omega.{arith}
 use lib.Dec.{eqb, ltb}
-use Rattle.minutes.specs.Laws.{Timed, CutOffExactly, TimeWordBelow, DivisionTimed, TimesTold}
+use Rattle.minutes.specs.Laws.{Timed, CutOffExactly, TimeWordBelow, ZeroOrTen, DivisionTimed, TimesTold}
 use Rattle.minutes.specs.Minutes.{timeOf, timeWord, wasCutOff}
 use Rattle.minutes.specs.declared.Given.the-variants.{Word, Until, NoTime}
 use Rattle.minutes.specs.declared.Time.{Time}
@@ -34,6 +35,13 @@ cut-off-exactly true capacity rate = go (eqb rate 0) (ltb 65534 (60 * capacity /
     go true over = refl
     go false true = refl
     go false false = refl
+
+pub zero-or-ten : ZeroOrTen
+zero-or-ten (Word w) = inl refl
+zero-or-ten (Until (Minutes m)) = inl refl
+zero-or-ten (Until Beyond) = inr refl
+zero-or-ten (Until NotMoving) = inl refl
+zero-or-ten NoTime = inr refl
 
 pub time-word-below : TimeWordBelow
 time-word-below flows capacity rate =

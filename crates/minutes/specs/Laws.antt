@@ -2,6 +2,7 @@
 -- Assumes nothing.
 use Prim.Native.Nat.{ℕ, _*_, _/_, _≤_, _<_}
 use mathlib.Core.Bool.{Bool, _&&_, _||_}
+use mathlib.Core.Logic.{_⊎_}
 use mathlib.Core.Path.{_≡_}
 use lib.Dec.{eqb, ltb}
 use Rattle.minutes.specs.Minutes.{timeOf, timeWord, wasCutOff, givenWord, givenAnswer}
@@ -20,6 +21,10 @@ CutOffExactly = (flows : Bool) (capacity rate : ℕ) → wasCutOff (timeOf flows
 -- 2. its word is below 65,536
 abbrev pub TimeWordBelow : Type 0
 TimeWordBelow = (flows : Bool) (capacity rate : ℕ) → timeWord (timeOf flows capacity rate) < 65536
+
+-- what a register gives is answered 0 or 10
+abbrev pub ZeroOrTen : Type 0
+ZeroOrTen = (g : Given) → (givenAnswer g ≡ 0) ⊎ (givenAnswer g ≡ 10)
 
 -- a time of at most 65,534 minutes, beyond them or not moving, or no time
 abbrev pub Timed : Given → Type 0

@@ -5,8 +5,9 @@ use mathlib.Core.List.{List, [], _∷_, _++_, append-assoc, append-nil}
 use Prim.Native.Nat.{ℕ, zero, suc, _+_, _-_, _*_, _/_, _%_, _^_, _≤_, _<_}
 use native.Mathlib.Nat.{add-zero, pow-suc, div-lt-iff-lt-mul}
 use native.Mathlib.Omega.{arith}
-use lib.ListN.{length, getD, take, drop, drop-of-length-le}
+use lib.ListN.{length, getD, take, drop, replicate, drop-of-length-le}
 use lib.Seq.{drop-cons, take-nil, drop-nil}
+use Rattle.recent.specs.Fits.{Below}
 use Rattle.rooms.proofs.Rooms.{byte-at}
 use Rattle.rooms.specs.Rooms.{Bytes, between}
 use Rattle.numbers.specs.Numbers.{numberBytes, numbersBytes, numberAt, numbersAt, bytesTaken, Within}
@@ -92,3 +93,8 @@ module _ (l : List ℕ) (b : Bytes l) where
   pub number-fits : (n at : ℕ) → numberAt n l at < 256 ^ n
   number-fits zero at = omega arith
   number-fits (suc n) at = rw pow-suc (omega (arith, byte-at l b at, number-fits n (suc at)))
+
+  -- and so is each of several of one width
+  pub numbers-fit : (width n at : ℕ) → Below (256 ^ width) (numbersAt (replicate n width) l at)
+  numbers-fit width zero at = tt
+  numbers-fit width (suc n) at = (number-fits width at, numbers-fit width n (at + width))

@@ -66,7 +66,7 @@ pub can-fits : (ms : ℕ) (z : ℤ) → ms ≤ 1000 → canGive ms z ≡ true �
 can-fits ms (pos n) h k = record { sfits = omega (arith, can-pos ms n k) }
 can-fits ms (negsuc n) h k = record { sfits = omega (arith, can-neg ms n k) }
 
-same-test : (a b c d : ℕ) → (a ≤ b → c ≤ d) → (c ≤ d → a ≤ b) → leb a b ≡ leb c d
+pub same-test : (a b c d : ℕ) → (a ≤ b → c ≤ d) → (c ≤ d → a ≤ b) → leb a b ≡ leb c d
 same-test a b c d f g =
     split b a (λ h. lt-leb a b h ∙ sym (split d c (λ k. lt-leb c d k) (λ k. absurd (omega (arith, g k)))))
     (λ h. le-leb a b h ∙ sym (le-leb c d (f h)))

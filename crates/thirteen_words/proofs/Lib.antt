@@ -1,0 +1,2 @@
+pub mod Celsius
+pub mod Cells

@@ -2,6 +2,7 @@
 -- Assumes nothing.
 use Prim.Native.Nat.{ℕ, _+_, _*_}
 use mathlib.Core.Bool.{Bool, true, _&&_, _||_}
+use mathlib.Core.Path.{_≡_}
 use lib.Dec.{ltb, leb}
 use Rattle.pack.specs.declared.Latest.{Latest}
 use Rattle.registers.specs.Registers.{bit}
@@ -17,6 +18,13 @@ hundredths tenths = 10 * tenths
 -- of one in °C
 abbrev pub celsius : ℕ → ℕ
 celsius degrees = 27315 + 100 * degrees
+
+-- promised: so many °C lie between two steps of 0.1 K, so that at least and at most are exact there
+abbrev pub AtLeastTenths : Type 0
+AtLeastTenths = (degrees tenths : ℕ) → leb (celsius degrees) (hundredths tenths) ≡ leb (2732 + 10 * degrees) tenths
+
+abbrev pub AtMostTenths : Type 0
+AtMostTenths = (degrees tenths : ℕ) → leb (hundredths tenths) (celsius degrees) ≡ leb tenths (2731 + 10 * degrees)
 
 -- ---- what sets each bit, by the latest sample
 

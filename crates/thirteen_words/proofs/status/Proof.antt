@@ -1,0 +1,39 @@
+-- `thirteen_words::status` meets its contract: bit by bit.
+-- Assumes nothing.
+use Prim.Native.Nat.{ℕ, _+_}
+use mathlib.Core.Bool.{Bool, cond}
+use mathlib.Core.Path.{_≡_, ap, _∙_}
+use borrow.Author.Needs.{needs}
+use Rattle.thirteen_words.specs.Status.{statusOf}
+use Rattle.thirteen_words.proofs.status.Statement.{statement}
+use Rattle.thirteen_words.proofs.status.Tie as tie
+
+-- nine numbers, each what its bit adds
+nine : {a b c d e f g h i a′ b′ c′ d′ e′ f′ g′ h′ i′ : ℕ} → a ≡ a′ → b ≡ b′ → c ≡ c′ → d ≡ d′ → e ≡ e′ → f ≡ f′ → g ≡ g′ → h ≡ h′ → i ≡ i′
+    → a + b + c + d + e + f + 0x0080 + g + h + i ≡ a′ + b′ + c′ + d′ + e′ + f′ + 0x0080 + g′ + h′ + i′
+nine p q r s t u v w x = rw (p, q, r, s, t, u, v, w, x)
+
+returns : tie.Need-returns
+unfolding statusOf
+returns c =
+    let charged = c .before .before in
+    let falling = charged .before .before in
+    let low = falling .before .before in
+    let high = low .before .before in
+    let put = high .before .before in
+    let drawn = put .before .before in
+    let cold = drawn .before .before in
+    let hot = cold .before .before in
+    nine
+    (cold .before .flag .ensures .0 ∙ ap (λ (b : Bool). cond b 0x2000 0) (hot .over-temperature .ensures))
+    (drawn .before .flag2 .ensures .0 ∙ ap (λ (b : Bool). cond b 0x1000 0) (cold .under-temperature .ensures))
+    (put .before .flag3 .ensures .0 ∙ ap (λ (b : Bool). cond b 0x0800 0) (drawn .discharge-over-current .ensures))
+    (high .before .flag4 .ensures .0 ∙ ap (λ (b : Bool). cond b 0x0400 0) (put .charge-over-current .ensures))
+    (low .before .flag5 .ensures .0 ∙ ap (λ (b : Bool). cond b 0x0200 0) (high .over-voltage .ensures))
+    (falling .before .flag6 .ensures .0 ∙ ap (λ (b : Bool). cond b 0x0100 0) (low .under-voltage .ensures))
+    (charged .before .flag7 .ensures .0 ∙ ap (λ (b : Bool). cond b 0x0040 0) (falling .falls .ensures))
+    (c .before .flag8 .ensures .0 ∙ ap (λ (b : Bool). cond b 0x0020 0) (charged .fully-charged .ensures))
+    (c .flag9 .ensures .0)
+
+pub status-spec : {M : Type 1} → statement M
+status-spec = tie.close (tie.spec (λ c κs. search needs) (λ c κs. search needs) (λ c κs. search needs) (λ c κs. search needs) (λ c κs. search needs) (λ c κs. search needs) (λ c κs. search needs) (λ c κs. search needs) (λ c κs. search needs) (λ c κs. search needs) (λ c κs. search needs) (λ c κs. search needs) (λ c κs. search needs) (λ c κs. search needs) (λ c κs. search needs) (λ c κs. search needs) (λ c κs. search needs) (λ c. search needs) (λ c. search needs) (λ c. search needs) (λ c. search needs) (λ c. search needs) (λ c. search needs) (λ c. search needs) (λ c. search needs) (λ c. search needs) returns)
