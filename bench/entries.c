@@ -17,6 +17,8 @@ static uint8_t area[SNATCHBLOCK_AREA];
 static struct sb2_state state;
 static uint8_t charger_area[SNATCHBLOCK_CHARGER_AREA];
 static struct sb2_charger charger;
+static uint8_t thirteen_area[SNATCHBLOCK_THIRTEEN_AREA];
+static struct sb2_thirteen thirteen;
 static uint8_t room[256];
 static uint8_t text[4096];
 static uint8_t letters[1024], strokes[64];
@@ -345,6 +347,57 @@ static void charger_current_s(void)
     sink = (uint64_t)sb2_charger_current(&charger, &current) + current;
 }
 
+/* The thirteen-cell pack: set up anew, and after a minute, a second on. */
+static const struct sb2_thirteen_set_up sprayer = {
+    5200, 5000, 2500, 48100, 97, {48378, -1239, 2982, 0},
+    {3637, 3711, 3583, 3840, 3694, 3755, 3900, 3651, 3770, 3702, 3811, 3599, 3725}};
+static void thirteen_set_up_p(void)
+{
+    sink = snatchblock_thirteen_set_up(thirteen_area, sizeof thirteen_area, 5200, 5000, 2500, 48100, 97, 48378, -1239,
+                                       2982, 0, sprayer.cells);
+}
+static void thirteen_set_up_c(void)
+{
+    sink = (uint64_t)sb2_area_thirteen_set_up(thirteen_area, sizeof thirteen_area, &sprayer);
+}
+static void thirteen_set_up_s(void) { sink = (uint64_t)sb2_thirteen_set_up(&thirteen, &sprayer); }
+
+static void thirteen_sound_p(void) { sink = snatchblock_thirteen_sound(thirteen_area, sizeof thirteen_area); }
+static void thirteen_sound_c(void) { sink = sb2_area_thirteen_sound(of(thirteen_area, sizeof thirteen_area)); }
+static void thirteen_sound_s(void) { sink = sb2_thirteen_sound(&thirteen); }
+
+static void thirteen_sample_p(void)
+{
+    sink = snatchblock_thirteen_sample(thirteen_area, sizeof thirteen_area, 48378, -1239, 2982, counter += 1000,
+                                       sprayer.cells);
+}
+static void thirteen_sample_c(void)
+{
+    struct sb2_sample sample = {48378, -1239, 2982, counter += 1000};
+    sink = (uint64_t)sb2_area_thirteen_sample(thirteen_area, sizeof thirteen_area, &sample, sprayer.cells);
+}
+static void thirteen_sample_s(void)
+{
+    struct sb2_sample sample = {48378, -1239, 2982, counter += 1000};
+    sink = (uint64_t)sb2_thirteen_sample(&thirteen, &sample, sprayer.cells);
+}
+
+static void thirteen_transact_p(void)
+{
+    sink = snatchblock_thirteen_transact(thirteen_area, sizeof thirteen_area, reading, message, message_length, room, 34);
+}
+static void thirteen_transact_c(void)
+{
+    size_t length;
+    sink = (uint64_t)sb2_area_thirteen_transact(thirteen_area, sizeof thirteen_area, reading,
+                                                of(message, message_length), room, 34, &length);
+}
+static void thirteen_transact_s(void)
+{
+    size_t length;
+    sink = (uint64_t)sb2_thirteen_transact(&thirteen, reading, of(message, message_length), room, 34, &length);
+}
+
 /* The entry of the header that a proved call is of. */
 static const struct {
     void (*call)(void);
@@ -379,6 +432,10 @@ static const struct {
     {charger_sample_p, "snatchblock_charger_sample"},
     {charger_transact_p, "snatchblock_charger_transact"},
     {charger_current_p, "snatchblock_charger_current"},
+    {thirteen_set_up_p, "snatchblock_thirteen_set_up"},
+    {thirteen_sound_p, "snatchblock_thirteen_sound"},
+    {thirteen_sample_p, "snatchblock_thirteen_sample"},
+    {thirteen_transact_p, "snatchblock_thirteen_transact"},
 };
 
 /* Its name, or - where there is none: a case of more than one, too. */
@@ -454,6 +511,26 @@ static void make_charger_entries(void)
     add_to_charger("charger-read", true, 0x13);
     add_to_charger("charger-write-pec", false, 0x14);
     add("charger-current", charger_current_p, charger_current_c, charger_current_s);
+}
+
+/* A read, or a write with its PEC, which is refused. */
+static void add_to_thirteen(const char *name, bool read, uint8_t command)
+{
+    struct entry *e = add(name, thirteen_transact_p, thirteen_transact_c, thirteen_transact_s);
+    e->reading = read;
+    e->command = command;
+    snprintf(e->name, sizeof e->name, "%s-%02X", name, command);
+}
+
+static void make_thirteen_entries(void)
+{
+    add("thirteen-set-up", thirteen_set_up_p, thirteen_set_up_c, thirteen_set_up_s);
+    add("thirteen-sound", thirteen_sound_p, thirteen_sound_c, thirteen_sound_s);
+    add("thirteen-sample-second", thirteen_sample_p, thirteen_sample_c, thirteen_sample_s);
+    static const uint8_t commands[] = {0x09, 0x11, 0x13, 0x16, 0xF1};
+    for (size_t i = 0; i < sizeof commands; i++)
+        add_to_thirteen("thirteen-read", true, commands[i]);
+    add_to_thirteen("thirteen-write-pec", false, 0x4F);
 }
 
 static void make_entries(void)
@@ -539,6 +616,19 @@ static void make_charger(void)
     sb2_area_charger_store(&start_charger, start_charger_area);
 }
 
+/* A thirteen-cell pack with 60 seconds kept, in both. */
+static uint8_t start_thirteen_area[SNATCHBLOCK_THIRTEEN_AREA];
+static struct sb2_thirteen start_thirteen;
+static void make_thirteen(void)
+{
+    (void)sb2_thirteen_set_up(&start_thirteen, &sprayer);
+    for (uint32_t i = 1; i <= 60; i++) {
+        struct sb2_sample sample = {48378, -1239, 2982, 1000 * i};
+        (void)sb2_thirteen_sample(&start_thirteen, &sample, sprayer.cells);
+    }
+    sb2_area_thirteen_store(&start_thirteen, start_thirteen_area);
+}
+
 static void make_start(void)
 {
     for (size_t i = 0; i < sizeof long_text; i += sizeof text)
@@ -561,6 +651,8 @@ static void prepare(const struct entry *e)
     state = start_state;
     memcpy(charger_area, start_charger_area, sizeof charger_area);
     charger = start_charger;
+    memcpy(thirteen_area, start_thirteen_area, sizeof thirteen_area);
+    thirteen = start_thirteen;
     if (e->power)
         write_both(area, &state, 0x03, 0x8000);
     if (e->beyond)
@@ -718,8 +810,10 @@ int main(int given, char **words)
     make_data();
     make_start();
     make_charger();
+    make_thirteen();
     make_entries();
     make_charger_entries();
+    make_thirteen_entries();
     if (given == 2 && strcmp(words[1], "names") == 0) {
         for (size_t i = 0; i < count; i++)
             printf("%s %s\n", entries[i].name, entry_of(entries[i].call[0]));

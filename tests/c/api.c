@@ -925,6 +925,41 @@ static void wrappers(void)
     CHECK(number_at(SNATCHBLOCK_LATEST + 6, 4), 0x00010020);
 }
 
+/* The same of the thirteen-cell pack, whose entries are each called once here: tests/c/thirteen.c has the rest. */
+static void thirteen_wrappers(void)
+{
+    enum { AREA = SNATCHBLOCK_THIRTEEN_AREA, CELLS = SNATCHBLOCK_THIRTEEN_CELLS };
+    const struct snatchblock_thirteen_setup setup = {
+        .DesignCapacity = 5201, .full = 5002, .remaining = 2503, .DesignVoltage = 48104, .StateOfHealth = 95};
+    const struct snatchblock_reading first = {.voltage = 48016, .current = -1017, .temperature = 2918, .counter = 0xFFFF0019};
+    const struct snatchblock_reading next = {.voltage = 48120, .current = 1121, .temperature = 2922, .counter = 0xFFFF0019};
+    const uint16_t cells[2][CELLS] = {{3701, 3702, 3703, 3704, 3705, 3706, 3707, 3708, 3709, 3710, 3711, 3712, 3713},
+                                      {3721, 3722, 3723, 3724, 3725, 3726, 3727, 3728, 3729, 3730, 3731, 3732, 3733}};
+    memset(area_memory, MARK, sizeof area_memory);
+    CHECK(snatchblock_thirteen_set_up_from(area, AREA - 1, &setup, &first, cells[0]), 1);
+    CHECK(snatchblock_thirteen_set_up_from(area, AREA, &setup, &first, cells[0]), 0);
+    CHECK(number_at(1, 2), 5201);
+    CHECK(number_at(3, 2), 48104);
+    CHECK(number_at(5, 2), 95);
+    CHECK(number_at(51, 2), 5002);
+    CHECK(number_at(43, 4), 2503 * 3600000ull & 0xFFFFFFFF);
+    CHECK(number_at(47, 4), 2503 * 3600000ull >> 32);
+    for (int i = 0; i < 2; i++) {
+        const struct snatchblock_reading *shown = i == 0 ? &first : &next;
+        CHECK(number_at(7, 2), shown->voltage);
+        CHECK(number_at(9, 2), (uint16_t)shown->current);
+        CHECK(number_at(11, 2), shown->temperature);
+        CHECK(number_at(13, 4), 0xFFFF0019);
+        for (size_t cell = 0; cell < CELLS; cell++)
+            CHECK(number_at(17 + 2 * cell, 2), cells[i][cell]);
+        CHECK(snatchblock_thirteen_sample_from(area, AREA, &next, cells[1]), 0); /* in no time */
+    }
+    CHECK(snatchblock_thirteen_sound(area, AREA), true);
+    new_room();
+    CHECK(snatchblock_thirteen_transact(area, AREA, true, BYTES(0x16, 0x3D, 0x17), room, REPLY_ROOM), PACKED(0, 3));
+    CHECK(room[0] | room[1] << 8, 3733);
+}
+
 int main(void)
 {
     CHECK(SNATCHBLOCK_REPLY_ROOM, REPLY_ROOM);
@@ -935,6 +970,7 @@ int main(void)
     answer_names();
     accessors();
     wrappers();
+    thirteen_wrappers();
     set_ups();
     layout();
     soundness();

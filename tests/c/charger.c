@@ -3,6 +3,7 @@
  * here bit by bit; some are written out, of a long division done elsewhere. */
 #include "check.h"
 #include "altered.h"
+#include "division.h"
 #include "snatchblock.h"
 
 #include <string.h>
@@ -12,6 +13,7 @@ enum { REPLY_ROOM = 3 };
 #include "room.h"
 
 enum { AREA = 23, AREA_MOST = 64, SILENCE = 175000 };
+#include "area.h"
 
 /* Where the area keeps what; of a request the word, then the flags taken and awaited. */
 enum { CURRENT = 0, VOLTAGE = 4, TAKEN = 2, AWAITED = 3, INHIBITED = 8, COUNT = 9, LATEST = 13 };
@@ -27,39 +29,11 @@ static const uint8_t nowhere[1] = {0};
 
 /* ---- the charger */
 
-static uint8_t area_memory[GUARD + AREA_MOST + GUARD], before[sizeof area_memory];
-static uint8_t *const area = area_memory + GUARD;
-
-static void remember(void)
-{
-    memcpy(before, area_memory, sizeof before);
-}
-
-/* Whether the area and the guard bytes around it are as they were. */
-static bool area_stays(void)
-{
-    return memcmp(before, area_memory, sizeof before) == 0;
-}
-
-static void put(size_t at, size_t bytes, uint32_t value)
-{
-    for (size_t i = 0; i < bytes; i++)
-        area[at + i] = (uint8_t)(value >> 8 * i & 0xFF);
-}
-
-static uint32_t number_at(size_t at, size_t bytes)
-{
-    uint32_t value = 0;
-    for (size_t i = 0; i < bytes; i++)
-        value |= (uint32_t)area[at + i] << 8 * i;
-    return value;
-}
-
 /* The power-on state at rest, 14,800 mV and 298.1 K. */
 static void set_up(uint32_t counter)
 {
     const struct snatchblock_reading first = {.voltage = 14800, .temperature = 2981, .counter = counter};
-    memset(area_memory, MARK, sizeof area_memory);
+    new_area();
     CHECK(snatchblock_charger_set_up_from(area, AREA, &first), 0);
 }
 
@@ -74,18 +48,6 @@ static uint32_t transact(bool read, const uint8_t *bytes, size_t length)
 {
     new_room();
     return snatchblock_charger_transact(area, AREA, read, bytes, length, room, REPLY_ROOM);
-}
-
-/* The check byte of a message, bit by bit. */
-static uint8_t check_byte(const uint8_t *bytes, size_t length)
-{
-    unsigned rest = 0;
-    for (size_t i = 0; i < length; i++) {
-        rest ^= bytes[i];
-        for (int bit = 0; bit < 8; bit++)
-            rest = rest & 0x80 ? rest << 1 ^ 0x107 : rest << 1;
-    }
-    return (uint8_t)rest;
 }
 
 /* A read that is served: word and PEC alone in the room, and the area as it was. */
@@ -156,7 +118,7 @@ static void in_use(void)
 /* Byte by byte, as the header lays it out. */
 static void layout(void)
 {
-    memset(area_memory, MARK, sizeof area_memory);
+    new_area();
     CHECK(snatchblock_charger_set_up(area, AREA, 14800, -500, 2981, 0x12345678), 0);
     const uint8_t power_on[AREA] = {0, 0, 0, 0, 0, 0, 0, 0, 0, 0, 0, 0, 0,
                                     0xD0, 0x39, 0x0C, 0xFE, 0xA5, 0x0B, 0x78, 0x56, 0x34, 0x12};

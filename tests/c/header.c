@@ -61,6 +61,31 @@ static bool charger_answers(void)
     return snatchblock_answer_of(result) == SNATCHBLOCK_NOT_SOUND && !snatchblock_charger_sound(area, sizeof area);
 }
 
+/* A pack of thirteen cells shows 48,190 mV in 10 mV, and all its cells; the first pack's area is none of it. */
+static bool thirteen_answers(void)
+{
+    const uint8_t asks[2][3] = {{0x16, 0x09, 0x17}, {0x16, 0xF1, 0x17}};
+    const uint16_t cells[SNATCHBLOCK_THIRTEEN_CELLS] = {3701, 3702, 3703, 3704, 3705, 3706, 3707,
+                                                        3708, 3709, 3710, 3711, 3712, 3713};
+    struct snatchblock_thirteen_setup setup = {5200, 5000, 2500, 48100, 97};
+    struct snatchblock_reading reading = {48190, 0, 2982, 0};
+    uint8_t pack[SNATCHBLOCK_THIRTEEN_AREA];
+    uint32_t result = snatchblock_thirteen_set_up_from(pack, sizeof pack, &setup, &reading, cells);
+    reading.counter = 1000;
+    result |= snatchblock_thirteen_sample_from(pack, sizeof pack, &reading, cells);
+    result |= snatchblock_thirteen_sample(pack, sizeof pack, 48190, 0, 2982, 2000, cells);
+    if (snatchblock_answer_of(result) != SNATCHBLOCK_SERVED || !snatchblock_thirteen_sound(pack, sizeof pack))
+        return false;
+    result = snatchblock_thirteen_transact(pack, sizeof pack, true, asks[0], 3, room, SNATCHBLOCK_REPLY_ROOM);
+    if (snatchblock_length_of(result) != 3 || snatchblock_low_first(room, 2) != 4819)
+        return false;
+    result = snatchblock_thirteen_transact(pack, sizeof pack, true, asks[1], 3, room, SNATCHBLOCK_REPLY_ROOM);
+    if (snatchblock_length_of(result) != 27 || snatchblock_low_first(room + 24, 2) != 3713)
+        return false;
+    result = snatchblock_thirteen_set_up(area, sizeof area, 1, 1, 1, 1, 1, 0, 0, 0, 0, cells);
+    return snatchblock_answer_of(result) == SNATCHBLOCK_NOT_SOUND && !snatchblock_thirteen_sound(area, sizeof area);
+}
+
 /* One call of each other function, its result read by its accessors. */
 static const uint8_t exchange[6] = {0x16, 0x09, 0x17, 0xD0, 0x39, 0x7E};
 static const uint8_t *const name = exchange + 1;
@@ -126,8 +151,8 @@ static bool shelf_answers(void)
 
 int main(void)
 {
-    if (pack_answers() && charger_answers() && messages_answer() && keys_answer() && sheets_answer() &&
-        edits_answer() && captures_answer() && shelf_answers())
+    if (pack_answers() && charger_answers() && thirteen_answers() && messages_answer() && keys_answer() &&
+        sheets_answer() && edits_answer() && captures_answer() && shelf_answers())
         return 0;
     printf("header: an answer is wrong\n");
     return 1;

@@ -1,6 +1,6 @@
-/* Which bytes of an area, the pack's or the charger's, a call stores. It lies over a seam: what stands before it may be
- * written or not, what stands after it may be read alone. A store past what the call owes ends the process, and each
- * call is held to the same call on an area in plain memory. Plain C11 and POSIX. */
+/* Which bytes of an area, the pack's, the charger's or the thirteen-cell pack's, a call stores. It lies over a seam: what
+ * stands before it may be written or not, what stands after it may be read alone. A store past what the call owes ends
+ * the process, and each call is held to the same call on an area in plain memory. Plain C11 and POSIX. */
 #define _DEFAULT_SOURCE
 #include "check.h"
 #include "snatchblock.h"
@@ -264,6 +264,134 @@ static void charger_refuses(void)
     CHECK(memcmp(seam, charger_state, BYTES), 0);
 }
 
+/* ---- the thirteen-cell pack: an accepted sample stores all, a transaction the first byte or nothing */
+
+static uint8_t thirteen_state[SNATCHBLOCK_THIRTEEN_AREA];
+static const uint16_t cells[SNATCHBLOCK_THIRTEEN_CELLS] = {3637, 3711, 3583, 3840, 3694, 3755, 3900,
+                                                           3651, 3770, 3702, 3811, 3599, 3725};
+
+static uint8_t *thirteen_across(size_t before, bool written)
+{
+    return laid(thirteen_state, sizeof thirteen_state, before, written);
+}
+
+static uint32_t thirteen_made(uint8_t *area, const struct call *c, uint8_t *room)
+{
+    memset(room, MARK, SNATCHBLOCK_REPLY_ROOM);
+    return snatchblock_thirteen_transact(area, SNATCHBLOCK_THIRTEEN_AREA, c->read, c->bytes, c->length, room, c->room);
+}
+
+static uint32_t thirteen_set_up(uint8_t *area, size_t length, uint16_t remaining)
+{
+    return snatchblock_thirteen_set_up(area, length, 5200, 5000, remaining, 48100, 97, 48378, -2, 2982, 0, cells);
+}
+
+/* 500 ms later: the last byte of the area, the begun second's, becomes FF. */
+static uint32_t thirteen_sample(uint8_t *area, size_t length)
+{
+    return snatchblock_thirteen_sample(area, length, 48378, -2, 2982, 500, cells);
+}
+
+/* 2,184 mAh at -2 mA: 65,520 minutes. */
+static void new_thirteen(void)
+{
+    CHECK(thirteen_set_up(thirteen_state, sizeof thirteen_state, 2184), 0);
+}
+
+/* The call stores the first byte alone, or not even that; and does what it does elsewhere. */
+static void thirteen_stores_at(int line, bool written, struct call c, uint32_t wanted)
+{
+    uint8_t room[SNATCHBLOCK_REPLY_ROOM], other[SNATCHBLOCK_REPLY_ROOM];
+    uint8_t *area = thirteen_across(1, written);
+    check_at(line, "the result", thirteen_made(area, &c, room), wanted);
+    check_at(line, "the result elsewhere", thirteen_made(thirteen_state, &c, other), wanted);
+    check_at(line, "the area", (unsigned long long)memcmp(area, thirteen_state, sizeof thirteen_state), 0);
+    check_at(line, "the room", (unsigned long long)memcmp(room, other, sizeof room), 0);
+}
+#define THIRTEEN_CODE_ALONE(call, wanted) thirteen_stores_at(__LINE__, true, call, wanted)
+#define THIRTEEN_NOTHING(call, wanted) thirteen_stores_at(__LINE__, false, call, wanted)
+#define WRITE_PEC(command, low, high, pec) \
+    (struct call){false, {0x16, command, low, high, pec}, 5, SNATCHBLOCK_REPLY_ROOM, no_names}
+
+/* 0 and 10: each command that it has. */
+static void thirteen_reads(void)
+{
+    static const uint8_t words[] = {0x08, 0x09, 0x0A, 0x0D, 0x11, 0x13, 0x16, 0x31, 0x32, 0x33, 0x34,
+                                    0x35, 0x36, 0x37, 0x38, 0x39, 0x3A, 0x3B, 0x3C, 0x3D, 0x4F};
+    new_thirteen();
+    for (size_t i = 0; i < sizeof words; i++) {
+        thirteen_state[0] = 6;
+        THIRTEEN_CODE_ALONE(READ(words[i]), PACKED(0, 3));
+        CHECK(thirteen_state[0], 0);
+    }
+    thirteen_state[0] = 6;
+    THIRTEEN_CODE_ALONE(READ(0xF1), PACKED(0, 27));
+    CHECK(thirteen_state[0], 0);
+    CHECK(thirteen_set_up(thirteen_state, sizeof thirteen_state, 2185), 0);
+    THIRTEEN_CODE_ALONE(READ(0x11), PACKED(10, 3)); /* 65,550 minutes */
+    CHECK(thirteen_state[0], 5);
+}
+
+/* 4 to 8, each from an error code that isn't its own. */
+static void thirteen_refusals(void)
+{
+    new_thirteen();
+    THIRTEEN_CODE_ALONE(WRITE(0x4F, 99, 0), 4);
+    CHECK(thirteen_state[0], 6);
+    THIRTEEN_CODE_ALONE(WRITE_PEC(0x4F, 99, 0, 0x19), 5);
+    CHECK(thirteen_state[0], 7);
+    THIRTEEN_CODE_ALONE(READ(0x0F), 6);
+    CHECK(thirteen_state[0], 2);
+    THIRTEEN_CODE_ALONE(READ(0x80), 7);
+    CHECK(thirteen_state[0], 3);
+    THIRTEEN_CODE_ALONE(WRITE_PEC(0x4F, 99, 0, 0x18), 8);
+    CHECK(thirteen_state[0], 4);
+    THIRTEEN_CODE_ALONE(WRITE_PEC(0x17, 0, 0, 0xA7), 6);
+    CHECK(thirteen_state[0], 2);
+    THIRTEEN_CODE_ALONE(WRITE_PEC(0x00, 0x10, 0, 0x44), 7);
+    CHECK(thirteen_state[0], 3);
+}
+
+/* 1, 2 and 3. */
+static void thirteen_untouched(void)
+{
+    enum { FLAG = 53 };
+    struct call small_room = READ(0x09), no_bytes = READ(0x09), foreign = WRITE_PEC(0x4F, 99, 0, 0x18);
+    small_room.room = SNATCHBLOCK_REPLY_ROOM - 1;
+    no_bytes.length = 0;
+    foreign.bytes[0] = 0x12;
+    new_thirteen();
+    thirteen_state[0] = 6;
+    THIRTEEN_NOTHING(small_room, 2);
+    THIRTEEN_NOTHING(no_bytes, 3);
+    THIRTEEN_NOTHING(foreign, 3);
+    CHECK(thirteen_state[0], 6);
+    thirteen_state[0] = 8;
+    THIRTEEN_NOTHING(READ(0x09), 1);
+    THIRTEEN_NOTHING(READ(0xF1), 1);
+    THIRTEEN_NOTHING(WRITE_PEC(0x4F, 99, 0, 0x18), 1);
+    new_thirteen();
+    thirteen_state[FLAG] = 2;
+    THIRTEEN_NOTHING(READ(0x09), 1);
+    THIRTEEN_NOTHING(WRITE(0x4F, 99, 0), 1);
+}
+
+/* No sample of a state that isn't sound, no set-up that is refused, and no question stores. */
+static void thirteen_refuses(void)
+{
+    enum { BYTES = SNATCHBLOCK_THIRTEEN_AREA };
+    new_thirteen();
+    CHECK(snatchblock_thirteen_sound(thirteen_across(0, false), BYTES), true);
+    CHECK(thirteen_set_up(thirteen_across(0, false), BYTES, 5001), 11);
+    CHECK(thirteen_set_up(thirteen_across(0, false), BYTES - 1, 2184), 1);
+    CHECK(thirteen_sample(thirteen_across(0, false), BYTES - 1), 1);
+    CHECK(memcmp(seam, thirteen_state, BYTES), 0);
+    thirteen_state[0] = 8;
+    CHECK(snatchblock_thirteen_sound(thirteen_across(0, false), BYTES), false);
+    CHECK(thirteen_sample(thirteen_across(0, false), BYTES), 1);
+    CHECK(memcmp(seam, thirteen_state, BYTES), 0);
+}
+
 /* ---- that a store shows */
 
 /* In a child a store past the seam is what was asked; in the test itself it is a failure. */
@@ -292,6 +420,12 @@ static void charger_call(uint8_t *area, const struct call *c)
     uint8_t room[SNATCHBLOCK_REPLY_ROOM];
     (void)(c ? charger_made(area, c, room)
              : snatchblock_charger_sample(area, SNATCHBLOCK_CHARGER_AREA, 14800, 0, 2981, 1000));
+}
+
+static void thirteen_call(uint8_t *area, const struct call *c)
+{
+    uint8_t room[SNATCHBLOCK_REPLY_ROOM];
+    (void)(c ? thirteen_made(area, c, room) : thirteen_sample(area, SNATCHBLOCK_THIRTEEN_AREA));
 }
 
 /* Whether a call that stores more ends there, tried in a child. No call is a sample. */
@@ -355,6 +489,25 @@ static void charger_shown(void)
     CHECK(faults_in(charger_call, charger_across(0, false), &CHARGER_READ(0x13)), false);
 }
 
+/* Its sample stores to the last byte, a read the first, and what isn't for it none. */
+static void thirteen_shown(void)
+{
+    enum { ALL = SNATCHBLOCK_THIRTEEN_AREA };
+    struct call foreign = READ(0x09);
+    foreign.bytes[0] = 0x12;
+    new_thirteen();
+    CHECK(faults_in(thirteen_call, thirteen_across(0, true), NULL), true);
+    CHECK(faults_in(thirteen_call, thirteen_across(ALL - 1, true), NULL), true);
+    CHECK(faults_in(thirteen_call, thirteen_across(ALL, true), NULL), false);
+    CHECK(thirteen_sample(thirteen_across(ALL, true), ALL), 0);
+    CHECK(thirteen_sample(thirteen_state, ALL), 0);
+    CHECK(memcmp(seam - ALL, thirteen_state, ALL), 0);
+    CHECK(thirteen_state[ALL - 1], 0xFF);
+    CHECK(faults_in(thirteen_call, thirteen_across(1, true), &READ(0xF1)), false);
+    CHECK(faults_in(thirteen_call, thirteen_across(1, false), &READ(0xF1)), true);
+    CHECK(faults_in(thirteen_call, thirteen_across(1, false), &foreign), false);
+}
+
 int main(void)
 {
     signal(SIGSEGV, strayed);
@@ -369,5 +522,10 @@ int main(void)
     charger_stores_nothing();
     charger_refuses();
     charger_shown();
+    thirteen_reads();
+    thirteen_refusals();
+    thirteen_untouched();
+    thirteen_refuses();
+    thirteen_shown();
     return checked("stores");
 }

@@ -28,7 +28,6 @@ use Rattle.commands.specs.Answers.{Side, sideAnswer, bare, requestAnswer, readA
 use Rattle.commands.specs.Commands.{isReserved, isOptional, isBlock}
 use Rattle.commands.specs.declared.Kind.{Kind}
 use Rattle.commands.specs.declared.Kind.the-variants.{ReadWrite, ReadOnly, WriteOnly, Block, Optional, Reserved}
-use Rattle.gauge_laws.proofs.Minutes.{ten-exactly}
 use Rattle.gauge_laws.specs.Minutes.{isTen}
 use Rattle.frame.specs.Transactions.{requestOf, foreign, misshapen, miscoded, writeOf}
 use Rattle.frame.specs.declared.Request.the-variants.{Refused, Read}
@@ -51,9 +50,22 @@ use Rattle.sheet_edit.specs.Edit.{holdsSheet, sheetAfter, isName, sizeOf, editA
 use Rattle.sheet_writer.specs.Writing.{sheetWrote, writable, short}
 use Rattle.shelf.specs.Shelf.{anyBad}
 use Rattle.shelf.proofs.Steps.{report-answer}
+use Rattle.gauge_laws.proofs.Minutes.{at, ten-exactly}
+use Rattle.thirteen.specs.Commands.{thirteenKind}
+use Rattle.thirteen.specs.Transact as thirteen-bus
+use Rattle.thirteen_area.specs.Area as thirteen-area
+use Rattle.thirteen_area.specs.declared.Loaded as thirteen-loaded
+use Rattle.thirteen_laws.proofs.Rows.{cut-off-exactly}
+use Rattle.thirteen_laws.specs.Rows.{isCutOff}
+use Rattle.thirteen_pack.specs.Sample as thirteen-sample
+use Rattle.thirteen_pack.specs.SetUp as thirteen-start
+use Rattle.thirteen_pack.specs.Sound as thirteen
+use Rattle.thirteen_pack.specs.declared.Thirteen.{Thirteen}
+use Rattle.thirteen_pack.specs.declared.ThirteenSampled as thirteen-sampled
+use Rattle.thirteen_pack.specs.declared.ThirteenStarted as thirteen-started
 use Rattle.answers.specs.Conditions.{commandOf, isDenied, sideConditions, isNone, overflows, editConditions, tableConditions}
 use Rattle.answers.specs.Lowest.{_when_, lowest, allAbove, rising, firstHolding}
-use Rattle.answers.specs.Promises.{SideLowest, TransactLowest, SetUpLowest, SampleLowest, LoadLowest, StoreLowest, ChargerTransactLowest, ChargerSampleLowest, ChargerLoadLowest, ChargerStoreLowest, WriteKeyLowest, ReadKeyLowest, FindLowest, UnescapeLowest, BlockLowest, LocateLowest, WriteSheetLowest, EditLowest, OpenLowest, StepLowest, WriteCaptureLowest, ExchangeLowest, ComparisonLowest, ReportLowest, TableReportLowest}
+use Rattle.answers.specs.Promises.{SideLowest, TransactLowest, SetUpLowest, SampleLowest, LoadLowest, StoreLowest, ChargerTransactLowest, ChargerSampleLowest, ChargerLoadLowest, ChargerStoreLowest, ThirteenSetUpLowest, ThirteenTransactLowest, ThirteenSampleLowest, ThirteenLoadLowest, ThirteenStoreLowest, WriteKeyLowest, ReadKeyLowest, FindLowest, UnescapeLowest, BlockLowest, LocateLowest, WriteSheetLowest, EditLowest, OpenLowest, StepLowest, WriteCaptureLowest, ExchangeLowest, ComparisonLowest, ReportLowest, TableReportLowest}
 use Rattle.answers.proofs.Lowest.{first-is-lowest}
 
 -- ---- one condition
@@ -108,6 +120,21 @@ charger-load-lowest area = answers {A = charger-loaded.Loaded} (λ r. r .answer)
 
 pub charger-store-lowest : ChargerStoreLowest
 charger-store-lowest room = unless 1 (eqb (length room) charger-area.chargerLength)
+
+pub thirteen-set-up-lowest : ThirteenSetUpLowest
+unfolding thirteen-start.setUpOf
+thirteen-set-up-lowest u health first cells = answers {A = thirteen-started.ThirteenStarted} (λ r. r .answer) (setUpRefused u) _ _ ∙ one 11 (setUpRefused u)
+
+pub thirteen-sample-lowest : ThirteenSampleLowest
+unfolding thirteen-sample.sampleOf
+thirteen-sample-lowest s x cells = answers {A = thirteen-sampled.ThirteenSampled} (λ r. r .answer) (not (thirteen.soundOf s)) _ _ ∙ one 1 (not (thirteen.soundOf s))
+
+pub thirteen-load-lowest : ThirteenLoadLowest
+unfolding thirteen-area.loadedOf
+thirteen-load-lowest area = answers {A = thirteen-loaded.Loaded} (λ r. r .answer) (thirteen-area.isThirteenArea area) _ _ ∙ unless 1 (thirteen-area.isThirteenArea area)
+
+pub thirteen-store-lowest : ThirteenStoreLowest
+thirteen-store-lowest s room = unless 1 (thirteen-area.storable s room)
 
 pub write-key-lowest : WriteKeyLowest
 unfolding keyWrote refused
@@ -295,3 +322,13 @@ transact-lowest s service factory read bytes room =
 pub charger-transact-lowest : ChargerTransactLowest
 unfolding charger-bus.transactOf charger-bus.transactAnswer
 charger-transact-lowest s read bytes room = side-lowest (charger-bus.chargerSide s) read bytes room true false refl refl (λ e. absurd (true≢false (sym e)))
+
+-- only words that are read only are cut off
+cut-read-only : (p : Thirteen) (command : ℕ) → isCutOff p command ≡ true → thirteenKind command ≡ ReadOnly
+unfolding thirteenKind
+cut-read-only p command h = at (λ n. thirteenKind n ≡ ReadOnly) command 0x11 refl (λ a. at (λ n. thirteenKind n ≡ ReadOnly) command 0x13 refl (λ b. absurd (true≢false (sym h ∙ simp (a, b)))))
+
+pub thirteen-transact-lowest : ThirteenTransactLowest
+unfolding thirteen-bus.transactOf thirteen-bus.transactAnswer
+thirteen-transact-lowest s read bytes room =
+    side-lowest (thirteen-bus.thirteenSide s) read bytes room true (isCutOff (s .pack) (commandOf bytes)) refl (cut-off-exactly (s .pack) (commandOf bytes)) (cut-read-only (s .pack) (commandOf bytes))

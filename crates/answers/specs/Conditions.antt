@@ -32,6 +32,12 @@ use Rattle.sheet_writer.specs.Writing.{short}
 use Rattle.shelf.specs.Shelf.{anyBad}
 use Rattle.shelf.specs.declared.Row.{Row}
 use Rattle.shelf_table.specs.Table.{rowsIn, isRagged}
+use Rattle.thirteen.specs.Transact.{thirteenSide}
+use Rattle.thirteen_area.specs.Area as thirteen-area
+use Rattle.thirteen_area.specs.Area.{isThirteenArea}
+use Rattle.thirteen_laws.specs.Rows.{isCutOff}
+use Rattle.thirteen_pack.specs.Sound as thirteen
+use Rattle.thirteen_pack.specs.declared.ThirteenState.{ThirteenState}
 use Rattle.answers.specs.Lowest.{Condition, _when_}
 
 -- ---- transactions
@@ -101,6 +107,24 @@ chargerLoadConditions area = (1 when not (isChargerArea area)) ∷ []
 -- 1: the room isn't one for such an area (RULES 14.12)
 abbrev pub chargerStoreConditions : List ℕ → List Condition
 chargerStoreConditions room = (1 when not (eqb (length room) chargerLength)) ∷ []
+
+-- ---- the thirteen-cell pack
+
+-- its block is always good; cut off are 11 and 13 beyond the range (RULES 15.1, 15.2, 15.7)
+abbrev pub thirteenTransactConditions : ThirteenState → Bool → List ℕ → ℕ → List Condition
+thirteenTransactConditions s read bytes room = sideConditions (thirteenSide s) read bytes room true (isCutOff (s .pack) (commandOf bytes))
+
+-- 1: state isn't sound (RULES 15.5)
+abbrev pub thirteenSampleConditions : ThirteenState → List Condition
+thirteenSampleConditions s = (1 when not (thirteen.soundOf s)) ∷ []
+
+-- 1: bytes are no area of such a pack (RULES 15.12)
+abbrev pub thirteenLoadConditions : List ℕ → List Condition
+thirteenLoadConditions area = (1 when not (isThirteenArea area)) ∷ []
+
+-- 1: the room isn't one for such an area, or the count of kept seconds isn't a byte (RULES 15.12)
+abbrev pub thirteenStoreConditions : ThirteenState → List ℕ → List Condition
+thirteenStoreConditions s room = (1 when not (thirteen-area.storable s room)) ∷ []
 
 -- ---- keys, sheets, captures
 

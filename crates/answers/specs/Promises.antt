@@ -32,8 +32,13 @@ use Rattle.sheet_writer.specs.Writing.{sheetWrote}
 use Rattle.shelf.specs.Shelf.{reportOf}
 use Rattle.shelf.specs.declared.Row.{Row}
 use Rattle.shelf_table.specs.Table.{tableWrote}
-use Rattle.answers.specs.Conditions.{commandOf, sideConditions, transactConditions, setUpConditions, sampleConditions, loadConditions, storeConditions, chargerTransactConditions, chargerSampleConditions, chargerLoadConditions, chargerStoreConditions, writeKeyConditions, readKeyConditions, unescapeConditions, blockConditions, writeSheetConditions, editConditions, captureConditions, stepConditions, writeCaptureConditions, exchangeConditions, comparisonConditions, reportConditions, tableConditions}
+use Rattle.answers.specs.Conditions.{commandOf, sideConditions, transactConditions, setUpConditions, sampleConditions, loadConditions, storeConditions, chargerTransactConditions, chargerSampleConditions, chargerLoadConditions, chargerStoreConditions, thirteenTransactConditions, thirteenSampleConditions, thirteenLoadConditions, thirteenStoreConditions, writeKeyConditions, readKeyConditions, unescapeConditions, blockConditions, writeSheetConditions, editConditions, captureConditions, stepConditions, writeCaptureConditions, exchangeConditions, comparisonConditions, reportConditions, tableConditions}
 use Rattle.answers.specs.Lowest.{lowest}
+use Rattle.thirteen.specs.Transact as thirteen-bus
+use Rattle.thirteen_area.specs.Area as thirteen-area
+use Rattle.thirteen_pack.specs.Sample as thirteen-sample
+use Rattle.thirteen_pack.specs.SetUp as thirteen-start
+use Rattle.thirteen_pack.specs.declared.ThirteenState.{ThirteenState}
 
 -- a transaction with any side of the bus, whose blocks are answered 9 where they aren't good, and whose words, read only, 10 where they are cut off
 abbrev pub SideLowest : Type 0
@@ -78,6 +83,25 @@ ChargerLoadLowest = (area : List ℕ) → charger-area.loadedOf area .answer ≡
 
 abbrev pub ChargerStoreLowest : Type 0
 ChargerStoreLowest = (room : List ℕ) → charger-area.storedOf room ≡ lowest (chargerStoreConditions room)
+
+-- the thirteen-cell pack's `set_up`, `transact`, `sample`, `load` and `store`
+abbrev pub ThirteenSetUpLowest : Type 0
+ThirteenSetUpLowest =
+    (u : Setup) (health : ℕ) (first : Sample) (cells : List ℕ) → thirteen-start.setUpOf u health first cells .answer ≡ lowest (setUpConditions u)
+
+abbrev pub ThirteenTransactLowest : Type 0
+ThirteenTransactLowest =
+    (s : ThirteenState) (read : Bool) (bytes : List ℕ) (room : ℕ)
+    → thirteen-bus.transactOf s read bytes room .answer ≡ lowest (thirteenTransactConditions s read bytes room)
+
+abbrev pub ThirteenSampleLowest : Type 0
+ThirteenSampleLowest = (s : ThirteenState) (x : Sample) (cells : List ℕ) → thirteen-sample.sampleOf s x cells .answer ≡ lowest (thirteenSampleConditions s)
+
+abbrev pub ThirteenLoadLowest : Type 0
+ThirteenLoadLowest = (area : List ℕ) → thirteen-area.loadedOf area .answer ≡ lowest (thirteenLoadConditions area)
+
+abbrev pub ThirteenStoreLowest : Type 0
+ThirteenStoreLowest = (s : ThirteenState) (room : List ℕ) → thirteen-area.storedOf s room ≡ lowest (thirteenStoreConditions s room)
 
 -- `write_key`, `read_key`, `find`, `unescape`
 abbrev pub WriteKeyLowest : Type 0

@@ -68,7 +68,7 @@ module _ (s : State) (service factory : List ℕ) (read : Bool) (bytes : List �
   abbrev pub number : ℕ
   number = requestAnswer (packSide s service factory) request
 
-  pub by-answer : transactAnswer s service factory read bytes room ≡ number
+  by-answer : transactAnswer s service factory read bytes room ≡ number
   unfolding transactAnswer
   by-answer =
       commands.past-two (packSide s service factory) (asked read bytes) room sound fits

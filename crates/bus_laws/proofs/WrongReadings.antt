@@ -2,26 +2,19 @@
 -- Assumes nothing.
 use Prim.Native.Nat.{ℕ, _≤_}
 use mathlib.Core.Bool.{true, cond}
-use mathlib.Core.List.{_∷_}
-use mathlib.Core.Logic.{inl}
 use mathlib.Core.Path.{_≡_, refl, ap, _∙_}
-use native.Mathlib.Omega.{arith}
-use borrow.Author.Tests.{ne-eqb}
-use lib.ListN.{length}
-use Rattle.bus.proofs.Answers.{by-answer}
-use Rattle.bus.specs.Transact.{packSide}
+use Rattle.bus.specs.Transact.{packSide, transactAnswer}
 use Rattle.bus_laws.proofs.Exchanges.{served-reply}
 use Rattle.bus_laws.proofs.Served.{read-answer, write-answer}
-use Rattle.bus_laws.specs.Calls.{Call, answer, reply, Reads, ReadsOnly}
+use Rattle.bus_laws.specs.Calls.{Call, answer, reply, visit, Reads, ReadsOnly}
 use Rattle.bus_laws.specs.Promises.{NoChargerCommands, OtherAddresses}
 use Rattle.capacity.proofs.Bounds.{either}
 use Rattle.commands.specs.Answers.{readAnswer, writeAnswer, served, readBody}
 use Rattle.commands.specs.Commands.{kindOf}
 use Rattle.commands.specs.declared.Kind.{Kind}
 use Rattle.commands.specs.declared.Kind.the-variants.{ReadOnly}
-use Rattle.frame.specs.Transactions.{foreign, replyOf, wordBody}
-use Rattle.frame.specs.declared.Request.the-variants.{Refused}
-use Rattle.frame_laws.proofs.Requests.{refused-is}
+use Rattle.commands_laws.proofs.Visits.{other-address}
+use Rattle.frame.specs.Transactions.{replyOf, wordBody}
 use Rattle.gauge.specs.Word.{givenOf}
 use Rattle.minutes.specs.Minutes.{timeWord, wasCutOff, givenWord, givenAnswer}
 use Rattle.minutes.specs.declared.Given.the-variants.{Until}
@@ -52,9 +45,5 @@ no-charger-commands s c sound room = (
 )
 
 pub other-addresses : OtherAddresses
-other-addresses s c address rest sound room b n =
-    by-answer s (c .service) (c .factory) (c .read) (c .bytes) (c .room) (Refused 3) sound room
-    (refused-is 0x16 (c .read) (c .bytes) 3 .1 (inl (refl, ap (foreign 0x16) b ∙ elsewhere)))
-  where
-    elsewhere : foreign 0x16 (address ∷ rest) ≡ true
-    elsewhere = simp (ne-eqb address 0x16 n, ne-eqb (length (address ∷ rest)) 0 (λ e. omega (arith, e)))
+unfolding transactAnswer
+other-addresses s c address rest sound room b n = other-address (visit s c) address rest (sound, room) b n

@@ -67,7 +67,7 @@ module _ (s : Charger) (read : Bool) (bytes : List ℕ) (room : ℕ) (request : 
   abbrev number : ℕ
   number = requestAnswer (chargerSide s) request
 
-  pub by-answer : transactAnswer s read bytes room ≡ number
+  by-answer : transactAnswer s read bytes room ≡ number
   unfolding transactAnswer
   by-answer =
       commands.past-two (chargerSide s) (asked read bytes) room sound fits ∙ ap (λ (q : Request). requestAnswer (chargerSide s) q) e

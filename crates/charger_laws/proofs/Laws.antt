@@ -6,10 +6,10 @@ use mathlib.Core.List.{List, [], _∷_}
 use mathlib.Core.Logic.{_⊎_, inl, inr}
 use mathlib.Core.Path.{_≡_, refl, sym, ap, _∙_, subst}
 use native.Mathlib.Omega.{arith}
-use borrow.Author.Tests.{le-leb, ne-eqb}
-use lib.Dec.{ltb, eqb}
+use borrow.Author.Tests.{le-leb}
+use lib.Dec.{ltb}
 use lib.ListN.{length}
-use Rattle.charger.proofs.Answers.{read-stays, refused-outcome, refusal, by-answer}
+use Rattle.charger.proofs.Answers.{read-stays, refused-outcome, refusal}
 use Rattle.charger.specs.Charger.{soundOf, sampledOf, sampleOf}
 use Rattle.charger.specs.Commands.{isShown, isTaken, chargerKind}
 use Rattle.charger.specs.Transact.{chargerSide, chargerAfter, asked, transactAnswer, transactOf}
@@ -21,12 +21,11 @@ use Rattle.charger_laws.specs.Events.{Call, result, answer, visit, Event
 use Rattle.charger_laws.specs.Promises.{SetUpSound, SoundStays, ReadRow, WriteRow, NeverComes, OtherAddresses, RefusedKeeps, RefusedRoom, RefusedSample, ReadKeeps, IdleKeeps, AlteredKeeps}
 use Rattle.commands.specs.Answers.{readAnswer, writeAnswer, requestAnswer, sideAnswer}
 use Rattle.commands.specs.declared.Kind.{Kind}
-use Rattle.commands_laws.proofs.Visits.{read-in-rows, write-in-rows}
-use Rattle.frame.specs.Transactions.{foreign, misshapen, miscoded, requestOf}
+use Rattle.commands_laws.proofs.Visits.{read-in-rows, write-in-rows, other-address}
+use Rattle.frame.specs.Transactions.{requestOf}
 use Rattle.frame.specs.declared.Request.{Request}
 use Rattle.frame.specs.declared.Request.the-variants.{Refused, Read, Write}
-use Rattle.frame_laws.proofs.Requests.{altered, refused-is}
-use Rattle.frame_laws.specs.Requests.{Lowest}
+use Rattle.frame_laws.proofs.Requests.{altered, refused-number}
 use Rattle.pack.specs.declared.Sample.{Sample}
 use Rattle.rooms.proofs.Choice.{chosen}
 
@@ -87,12 +86,7 @@ few-write command =
     (λ e. chosen (λ (k : Kind). Few (writeAnswer k)) (isTaken command) (λ f. none) (λ f. six))
 
 few-refused : (address : ℕ) (read : Bool) (bytes : List ℕ) (n : ℕ) → requestOf address read bytes ≡ Refused n → Few n
-few-refused address read bytes n e = go (refused-is address read bytes n .0 e)
-  where
-    go : Lowest (foreign address bytes) (misshapen address read bytes) (miscoded read bytes) n → Few n
-    go (inl h) = (omega (arith, h .0), λ z. omega (arith, h .0, z))
-    go (inr (inl h)) = (omega (arith, h .0), λ z. omega (arith, h .0, z))
-    go (inr (inr h)) = (omega (arith, h .0), λ z. omega (arith, h .0, z))
+few-refused address read bytes n e = let h = refused-number address read bytes n e in (omega (arith, h .1), λ z. omega (arith, h .1, z))
 
 pub never-comes : NeverComes
 unfolding transactAnswer sideAnswer
@@ -106,12 +100,8 @@ never-comes s c =
     go (Write command word checked) e = few-write command
 
 pub other-addresses : OtherAddresses
-other-addresses s c address rest sound room b n =
-    by-answer s (c .read) (c .bytes) (c .room) (Refused 3) sound room
-    (refused-is 0x12 (c .read) (c .bytes) 3 .1 (inl (refl, ap (foreign 0x12) b ∙ elsewhere)))
-  where
-    elsewhere : foreign 0x12 (address ∷ rest) ≡ true
-    elsewhere = simp (ne-eqb address 0x12 n, ne-eqb (length (address ∷ rest)) 0 (λ e. omega (arith, e)))
+unfolding transactAnswer
+other-addresses s c address rest sound room b n = other-address (visit s c) address rest (sound, room) b n
 
 -- ---- what changes nothing
 

@@ -2,10 +2,11 @@
 -- Assumes nothing.
 use Prim.Native.Nat.{ℕ, _≤_, _<_}
 use mathlib.Core.Bool.{Bool, true, false, cond, true≢false}
-use mathlib.Core.List.{List, [], _++_}
+use mathlib.Core.List.{List, [], _∷_, _++_}
+use mathlib.Core.Logic.{inl}
 use mathlib.Core.Path.{_≡_, refl, sym, ap, _∙_, subst, subst₂}
 use native.Mathlib.Omega.{arith}
-use borrow.Author.Tests.{ltb-true, ltb-false}
+use borrow.Author.Tests.{ltb-true, ltb-false, ne-eqb}
 use lib.Dec.{ltb}
 use lib.ListN.{length, getD}
 use Rattle.commands.proofs.Answers.{unsound, small-room, past-two}
@@ -13,12 +14,12 @@ use Rattle.commands.specs.Answers.{readAnswer, writeAnswer, bare, requestAnswer
 use Rattle.commands.specs.Lengths.{Lengths}
 use Rattle.commands.specs.declared.Kind.{Kind}
 use Rattle.commands.specs.declared.Kind.the-variants.{ReadWrite, ReadOnly, WriteOnly, Block, Optional, Reserved}
-use Rattle.commands_laws.specs.Visits.{Visit, visitAsked, visitAnswer, visitBody, visitExchange, Heard, VisitReads, ServedHeard, ReadByRow, WriteByRow, ReadInRows, WriteInRows, ServedReply, ExchangePasses, ExchangeLength, ExchangeAccepted, VisitExchanged, ExchangesApart, VisitMisheard}
-use Rattle.frame.specs.Transactions.{readBytes, replyOf}
+use Rattle.commands_laws.specs.Visits.{Visit, visitAsked, visitAnswer, visitBody, visitExchange, Heard, VisitReads, ServedHeard, ReadByRow, WriteByRow, ReadInRows, WriteInRows, ServedReply, ExchangePasses, ExchangeLength, ExchangeAccepted, VisitExchanged, ExchangesApart, VisitMisheard, OtherAddress}
+use Rattle.frame.specs.Transactions.{foreign, readBytes, replyOf}
 use Rattle.frame.specs.declared.Request.{Request}
 use Rattle.frame.specs.declared.Request.the-variants.{Read}
 use Rattle.frame_laws.proofs.Replies.{accepts-right, exchange-right, word-exchange, block-exchange, word-bytes, command-misheard, two-exchanges}
-use Rattle.frame_laws.proofs.Requests.{read-is, write-is}
+use Rattle.frame_laws.proofs.Requests.{read-is, write-is, refused-is}
 use Rattle.frame_laws.specs.Exchanges.{exchangeOf, FarApart}
 use Rattle.pec.proofs.Table.{value-at}
 use Rattle.pec.specs.Table.{valuesBelow}
@@ -58,10 +59,17 @@ write-in-rows v command word checked rows e l h w =
     write-by-row v command word checked h w
     ∙ ap (λ (n : ℕ). cond (bare (v .side) checked) 4 n) (in-rows (λ n. writeAnswer (v .side .kinds n)) command rows e l)
 
+pub other-address : OtherAddress
+other-address v other rest h b n =
+    by-request v h (refused-is (v .side .address) (v .read) (v .bytes) 3 .1 (inl (refl, ap (foreign (v .side .address)) b ∙ elsewhere)))
+  where
+    elsewhere : foreign (v .side .address) (other ∷ rest) ≡ true
+    elsewhere = simp (ne-eqb other (v .side .address) n, ne-eqb (length (other ∷ rest)) 0 (λ e. omega (arith, e)))
+
 -- ---- served replies
 
 -- the answer of the row is served, too
-row-served : (v : Visit) (command : ℕ) → VisitReads v command → served (visitAnswer v) ≡ true → served (readAnswer (v .side) command (v .side .kinds command)) ≡ true
+pub row-served : (v : Visit) (command : ℕ) → VisitReads v command → served (visitAnswer v) ≡ true → served (readAnswer (v .side) command (v .side .kinds command)) ≡ true
 row-served v command r h = ap (λ (n : ℕ). served n) (sym (read-by-row v command (served-heard v h) r)) ∙ h
 
 pub served-reply : ServedReply
@@ -70,7 +78,7 @@ served-reply v command r h =
     ∙ ap (λ (b : Bool). cond b (replyOf (v .bytes) (visitBody v command)) []) h
 
 -- what a reader sent followed by what it heard
-whole : (v : Visit) (command : ℕ) → VisitReads v command → served (visitAnswer v) ≡ true
+pub whole : (v : Visit) (command : ℕ) → VisitReads v command → served (visitAnswer v) ≡ true
     → visitExchange v ≡ exchangeOf (readBytes (v .side .address) command) (visitBody v command)
 whole v command r h =
     ap (λ (x : List ℕ). v .bytes ++ x) (served-reply v command r h)

@@ -2,7 +2,7 @@
 -- Assumes nothing.
 use Prim.Native.Nat.{ℕ, _≤_, _<_}
 use mathlib.Core.Bool.{Bool, true, false, cond}
-use mathlib.Core.List.{List, _++_}
+use mathlib.Core.List.{List, _∷_, _++_}
 use mathlib.Core.Path.{_≡_}
 use lib.ListN.{length, getD}
 use Rattle.commands.specs.Answers.{Side, readAnswer, writeAnswer, bare, served, sideAnswer, readBody, sideReply}
@@ -79,6 +79,11 @@ abbrev pub WriteInRows : Type 0
 WriteInRows =
     (v : Visit) (command word : ℕ) (checked : Bool) (rows : List ℕ) → valuesBelow 256 (λ n. writeAnswer (v .side .kinds n)) ≡ rows
     → command < 256 → Heard v → VisitWrites v command word checked → visitAnswer v ≡ cond (bare (v .side) checked) 4 (getD rows command 0)
+
+-- what is sent to another address is answered 3
+abbrev pub OtherAddress : Type 0
+OtherAddress =
+    (v : Visit) (other : ℕ) (rest : List ℕ) → Heard v → v .bytes ≡ other ∷ rest → (other ≡ v .side .address → ⊥) → visitAnswer v ≡ 3
 
 -- ---- served replies
 

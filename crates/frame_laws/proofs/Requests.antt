@@ -4,7 +4,7 @@ use mathlib.Core.Path.{_≡_, refl, sym, ap, _∙_, subst}
 use mathlib.Core.Bool.{Bool, true, false, cond, true≢false}
 use mathlib.Core.List.{List, [], _∷_}
 use mathlib.Core.Logic.{_⊎_, inl, inr}
-use Prim.Native.Nat.{ℕ, _+_, _<_}
+use Prim.Native.Nat.{ℕ, _+_, _≤_, _<_}
 use native.Mathlib.Omega.{arith}
 use borrow.Author.Tests.{eq-eqb, eqb-true, ne-eqb, not-false}
 use lib.Dec.{eqb}
@@ -15,7 +15,7 @@ use Rattle.pec_laws.proofs.Theorems.{caught}
 use Rattle.frame.specs.declared.Request.{Request}
 use Rattle.frame.specs.declared.Request.the-variants.{Refused, Read, Write}
 use Rattle.frame.specs.Transactions.{foreign, misshapen, miscoded, writeOf, requestOf, readBytes, writeBytes}
-use Rattle.frame_laws.specs.Requests.{Lowest, WriteBytes, RefusedIs, ReadIs, WriteIs, RequestFits, AskedFits, Altered}
+use Rattle.frame_laws.specs.Requests.{Lowest, WriteBytes, RefusedIs, RefusedNumber, ReadIs, WriteIs, RequestFits, AskedFits, Altered}
 use Rattle.frame_laws.proofs.Replies.{ends-right, last-is}
 use Rattle.rooms.specs.Rooms.{Bytes}
 use Rattle.words.specs.Words.{joined}
@@ -53,6 +53,14 @@ refused-is address read bytes n = (
   lowest (foreign address bytes) (misshapen address read bytes) (miscoded read bytes) read bytes n,
   refused (foreign address bytes) (misshapen address read bytes) (miscoded read bytes) (wanted read bytes) n,
 )
+
+pub refused-number : RefusedNumber
+refused-number address read bytes n e = go (refused-is address read bytes n .0 e)
+  where
+    go : Lowest (foreign address bytes) (misshapen address read bytes) (miscoded read bytes) n → (3 ≤ n) × (n ≤ 5)
+    go (inl h) = (omega (arith, h .0), omega (arith, h .0))
+    go (inr (inl h)) = (omega (arith, h .0), omega (arith, h .0))
+    go (inr (inr h)) = (omega (arith, h .0), omega (arith, h .0))
 
 -- ---- what is taken: exactly these bytes
 

@@ -32,6 +32,10 @@ RefusedIs =
     (address : ℕ) (read : Bool) (bytes : List ℕ) (n : ℕ)
     → (requestOf address read bytes ≡ Refused n) ↔ Lowest (foreign address bytes) (misshapen address read bytes) (miscoded read bytes) n
 
+-- so a number from 3 to 5
+abbrev pub RefusedNumber : Type 0
+RefusedNumber = (address : ℕ) (read : Bool) (bytes : List ℕ) (n : ℕ) → requestOf address read bytes ≡ Refused n → (3 ≤ n) × (n ≤ 5)
+
 -- Read: exactly address, command, address + 1
 abbrev pub ReadIs : Type 0
 ReadIs =

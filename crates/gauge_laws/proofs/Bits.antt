@@ -10,7 +10,7 @@ use Rattle.gauge_laws.specs.Promises.{digit, EachBit}
 use Rattle.pack.specs.declared.Pack.{Pack}
 use Rattle.registers.specs.Registers.{bit}
 
-digit-most : (on : Bool) → digit on ≤ 1
+pub digit-most : (on : Bool) → digit on ≤ 1
 digit-most true = omega arith
 digit-most false = omega arith
 
@@ -19,7 +19,7 @@ pub digit-set : (on : Bool) → digit on ≡ 1 → on ≡ true
 digit-set true h = refl
 digit-set false h = absurd (omega (arith, h))
 
-weighed : (k : ℕ) (on : Bool) → bit k on ≡ 2 ^ k * digit on
+pub weighed : (k : ℕ) (on : Bool) → bit k on ≡ 2 ^ k * digit on
 weighed k true = omega arith
 weighed k false = omega arith
 

@@ -44,7 +44,7 @@ either-ten true c = refl
 either-ten false c = refl
 
 -- a property of a command, looked at one key first
-at : (P : ℕ → Type 0) (command key : ℕ) → P key → (eqb command key ≡ false → P command) → P command
+pub at : (P : ℕ → Type 0) (command key : ℕ) → P key → (eqb command key ≡ false → P command) → P command
 at P command key here else = go (eqb command key) refl
   where
     go : (b : Bool) → eqb command key ≡ b → P command

@@ -31,7 +31,7 @@ use Rattle.start.specs.SetUp.{packOf}
 
 -- ---- the currents of all milliseconds are those of the samples
 
-of-samples : (counter : ℕ) (xs : List Sample) → Signed16 xs → Currents (milliseconds counter xs)
+pub of-samples : (counter : ℕ) (xs : List Sample) → Signed16 xs → Currents (milliseconds counter xs)
 of-samples counter [] f = tt
 of-samples counter (x ∷ xs) f =
     let time = elapsedOf (x .counter) counter in
@@ -39,7 +39,7 @@ of-samples counter (x ∷ xs) f =
 
 -- ---- the minute
 
-minute-after : (s : Settings) (m : Measures) (xs : List Sample) (l : List ℤ) → Currents l → Signed16 xs → m .recent ≡ recentOf l
+pub minute-after : (s : Settings) (m : Measures) (xs : List Sample) (l : List ℤ) → Currents l → Signed16 xs → m .recent ≡ recentOf l
     → measuresAfter s m xs .recent ≡ recentOf (l ++ milliseconds (m .latest .counter) xs)
 minute-after s m [] l h f e = e ∙ ap recentOf (sym (append-nil l))
 minute-after s m (x ∷ xs) l h f e =
@@ -59,12 +59,12 @@ minute-since-set-up u first es a f =
 
 -- ---- register 0B
 
-latest-after : (s : Settings) (m : Measures) (y : Sample) (xs : List Sample) → m .latest ≡ latestOf y
+pub latest-after : (s : Settings) (m : Measures) (y : Sample) (xs : List Sample) → m .latest ≡ latestOf y
     → measuresAfter s m xs .latest .current ≡ ofZ w16 (latestCurrent y xs)
 latest-after s m y [] e = ap (λ (l : Latest). l .current) e
 latest-after s m y (x ∷ xs) e = latest-after s _ x xs refl
 
-latest-fits : (y : Sample) (xs : List Sample) → Signed16 (y ∷ xs) → SFits w16 (latestCurrent y xs)
+pub latest-fits : (y : Sample) (xs : List Sample) → Signed16 (y ∷ xs) → SFits w16 (latestCurrent y xs)
 latest-fits y [] f = f .0
 latest-fits y (x ∷ xs) f = latest-fits x xs (f .1)
 

@@ -26,12 +26,15 @@ gives s read bytes room answer reply e f = (
 )
 
 -- a refusal has no reply bytes
+pub refused-no-reply : (s : ThirteenState) (read : Bool) (bytes : List ℕ) (room n : ℕ) → transactAnswer s read bytes room ≡ n → served n ≡ false
+    → transactReply s read bytes room ≡ []
+unfolding transactReply
+refused-no-reply s read bytes room n e v =
+    ap (λ (a : ℕ). sideReply (thirteenSide s) bytes (asked read bytes) a) e ∙ commands.refused-reply (thirteenSide s) bytes (asked read bytes) n v
+
 pub refusal : (s : ThirteenState) (read : Bool) (bytes room : List ℕ) (n : ℕ) → transactAnswer s read bytes (length room) ≡ n → served n ≡ false
     → Gives s read bytes room n []
-unfolding transactReply
-refusal s read bytes room n e v =
-    gives s read bytes room n [] e
-    (ap (λ (a : ℕ). sideReply (thirteenSide s) bytes (asked read bytes) a) e ∙ commands.refused-reply (thirteenSide s) bytes (asked read bytes) n v)
+refusal s read bytes room n e v = gives s read bytes room n [] e (refused-no-reply s read bytes (length room) n e v)
 
 module _ (s : ThirteenState) (read : Bool) (bytes : List ℕ) (room : ℕ) where
   pub unsound : soundOf s ≡ false → transactAnswer s read bytes room ≡ 1

@@ -1,17 +1,12 @@
 -- `thirteen_words::status` meets its contract: bit by bit.
 -- Assumes nothing.
-use Prim.Native.Nat.{ℕ, _+_}
 use mathlib.Core.Bool.{Bool, cond}
-use mathlib.Core.Path.{_≡_, ap, _∙_}
+use mathlib.Core.Path.{ap, _∙_}
 use borrow.Author.Needs.{needs}
+use Rattle.thirteen_words.proofs.Bits.{nine}
 use Rattle.thirteen_words.specs.Status.{statusOf}
 use Rattle.thirteen_words.proofs.status.Statement.{statement}
 use Rattle.thirteen_words.proofs.status.Tie as tie
-
--- nine numbers, each what its bit adds
-nine : {a b c d e f g h i a′ b′ c′ d′ e′ f′ g′ h′ i′ : ℕ} → a ≡ a′ → b ≡ b′ → c ≡ c′ → d ≡ d′ → e ≡ e′ → f ≡ f′ → g ≡ g′ → h ≡ h′ → i ≡ i′
-    → a + b + c + d + e + f + 0x0080 + g + h + i ≡ a′ + b′ + c′ + d′ + e′ + f′ + 0x0080 + g′ + h′ + i′
-nine p q r s t u v w x = rw (p, q, r, s, t, u, v, w, x)
 
 returns : tie.Need-returns
 unfolding statusOf
