@@ -1,9 +1,10 @@
 # Two commands: `make demo` does the main job, `make test` is the whole gate.
-.PHONY: help demo play keys hut shelf rename pec firmware test bench install uninstall clean
+.PHONY: help demo play thirteen keys hut shelf rename pec firmware test bench install uninstall clean
 
 help:
 	@echo 'make demo              plays captures/class.capture, a recorded visit to the bus'
 	@echo 'make play CAPTURE=file plays another capture'
+	@echo 'make thirteen          plays captures/thirteen.capture to a thirteen-cell pack; CAPTURE=file plays another'
 	@echo 'make keys              two packs that a dash makes one, and their two keys'
 	@echo 'make hut               five minutes of a pack in a hut, and what it broadcasts'
 	@echo "make shelf TABLE=file  Monday's figures of a table of packs; with no file, of examples/shelf/monday.txt"
@@ -19,6 +20,10 @@ CAPTURE ?= captures/class.capture
 
 demo play: target/bin/player
 	@tools/run target/bin/player <$(CAPTURE)
+
+thirteen: CAPTURE = captures/thirteen.capture
+thirteen: target/bin/thirteen_player
+	@tools/run target/bin/thirteen_player <$(CAPTURE)
 
 keys: target/bin/key_demo
 	@tools/run target/bin/key_demo

@@ -1,10 +1,10 @@
 /* The firmware of a thirteen-cell pack over the proved library, to be copied: change the figures, and give it your
- * board's functions (board.h). To see it at work:  examples/thirteen/run  builds it with a simulated board (main.c), lets
- * it spray for ten minutes and prints a host's visit.
+ * board's functions (board.h). examples/thirteen/run shows it at work: on a simulated board (main.c) it sprays for ten
+ * minutes, and a host's visit is printed.
  *
  * The area has two users, the driver's interrupt (pack_on_bus) and the loop, which masks that interrupt around its own
- * calls. It broadcasts nothing. To keep the area over a time without power, see examples/firmware/pack.c: its PEC beside
- * it, snatchblock_thirteen_sound, and a first sample with current 0. */
+ * calls. This pack broadcasts nothing. How an area is kept over a time without power stands in
+ * examples/firmware/pack.c: with its PEC beside it, taken back if it is sound, and a first sample with current 0. */
 #include "board.h"
 
 static uint8_t area[SNATCHBLOCK_THIRTEEN_AREA];
@@ -41,6 +41,7 @@ bool pack_on_second(void)
 /* The interrupt's own call. The driver has the message whole: a read when its 17 came, a write at its STOP. */
 int pack_on_bus(bool read, const uint8_t *bytes, size_t length, uint8_t reply[SNATCHBLOCK_REPLY_ROOM])
 {
-    uint32_t result = snatchblock_thirteen_transact(area, sizeof area, read, bytes, length, reply, SNATCHBLOCK_REPLY_ROOM);
+    uint32_t result = snatchblock_thirteen_transact(area, sizeof area, read, bytes, length, reply,
+                                                    SNATCHBLOCK_REPLY_ROOM);
     return snatchblock_served(result) ? (int)snatchblock_length_of(result) : PACK_SILENT;
 }

@@ -1,6 +1,6 @@
-/* Which bytes of an area, the pack's, the charger's or the thirteen-cell pack's, a call stores. It lies over a seam: what
- * stands before it may be written or not, what stands after it may be read alone. A store past what the call owes ends
- * the process, and each call is held to the same call on an area in plain memory. Plain C11 and POSIX. */
+/* Which bytes of an area, the pack's, the charger's or the thirteen-cell pack's, a call stores. It lies over a seam:
+ * what stands before it may be written or not, what stands after it may be read alone. A store past what the call owes
+ * ends the process, and each call is held to the same call on an area in plain memory. Plain C11 and POSIX. */
 #define _DEFAULT_SOURCE
 #include "check.h"
 #include "snatchblock.h"

@@ -1,7 +1,7 @@
 /* The thirteen-cell pack, held to figures worked by hand from request R-10 and source document 001: every function and
- * answer, every command read and written, every word and status bit at its borders, samples and soundness, what the area
- * keeps and what it leaves. Check bytes are worked out here bit by bit; some are written out, of a long division done
- * elsewhere, and some are 001's own. */
+ * answer, every command read and written, every word and status bit at its borders, samples and soundness, what the
+ * area keeps and what it leaves. Check bytes are worked out here bit by bit; some are written out, of a long division
+ * done elsewhere, and some are 001's own. */
 #include "check.h"
 #include "altered.h"
 #include "division.h"
@@ -146,26 +146,30 @@ static void message_of(uint8_t message[5], uint8_t command, uint16_t word)
 /* Byte by byte, as the header lays it out: set up, and a sample 1,500 ms later. */
 static void layout(void)
 {
-    const uint8_t made[AREA] = {0, 0x50, 0x14, 0xE4, 0xBB, 0x61, 0, 0xFA, 0xBC, 0x29, 0xFB, 0xA6, 0x0B, 0x78, 0x56, 0x34, 0x12,
-                                0x35, 0x0E, 0x7F, 0x0E, 0xFF, 0x0D, 0x00, 0x0F, 0x6E, 0x0E, 0xAB, 0x0E, 0x3C, 0x0F, 0x43, 0x0E,
-                                0xBA, 0x0E, 0x76, 0x0E, 0xE3, 0x0E, 0x0F, 0x0E, 0x8D, 0x0E,
-                                0x00, 0x1A, 0x71, 0x18, 0x02, 0, 0, 0, /* 2,500 mAh are 9,000,000,000 mA·ms */
-                                0x88, 0x13};
-    const uint8_t later[] = {0x51, 0xC3, 0xFA, 0x00, 0xB8, 0x0B, 0x54, 0x5C, 0x34, 0x12,
-                             0x8D, 0x0E, 0x0F, 0x0E, 0xE3, 0x0E, 0x76, 0x0E, 0xBA, 0x0E, 0x43, 0x0E, 0x3C, 0x0F, 0xAB, 0x0E,
-                             0x6E, 0x0E, 0x00, 0x0F, 0xFF, 0x0D, 0x7F, 0x0E, 0x35, 0x0E,
-                             0xD8, 0xD2, 0x76, 0x18, 0x02, 0, 0, 0}; /* and 250 x 1,500 */
+    const uint8_t made[AREA] = {
+        0, 0x50, 0x14, 0xE4, 0xBB, 0x61, 0, 0xFA, 0xBC, 0x29, 0xFB, 0xA6, 0x0B, 0x78, 0x56, 0x34, 0x12,
+        0x35, 0x0E, 0x7F, 0x0E, 0xFF, 0x0D, 0x00, 0x0F, 0x6E, 0x0E, 0xAB, 0x0E, 0x3C, 0x0F, 0x43, 0x0E,
+        0xBA, 0x0E, 0x76, 0x0E, 0xE3, 0x0E, 0x0F, 0x0E, 0x8D, 0x0E,
+        0x00, 0x1A, 0x71, 0x18, 0x02, 0, 0, 0, /* 2,500 mAh are 9,000,000,000 mA·ms */
+        0x88, 0x13};
+    const uint8_t later[] = {
+        0x51, 0xC3, 0xFA, 0x00, 0xB8, 0x0B, 0x54, 0x5C, 0x34, 0x12,
+        0x8D, 0x0E, 0x0F, 0x0E, 0xE3, 0x0E, 0x76, 0x0E, 0xBA, 0x0E, 0x43, 0x0E, 0x3C, 0x0F, 0xAB, 0x0E,
+        0x6E, 0x0E, 0x00, 0x0F, 0xFF, 0x0D, 0x7F, 0x0E, 0x35, 0x0E,
+        0xD8, 0xD2, 0x76, 0x18, 0x02, 0, 0, 0}; /* and 250 x 1,500 */
     uint16_t turned[CELLS];
-    set_up();
-    CHECK(memcmp(area, made, AREA), 0);
+    new_area();
     remember();
+    memcpy(before + GUARD, made, AREA);
+    CHECK(snatchblock_thirteen_set_up_from(area, AREA, &sprayer, &at_work, cells), 0);
+    CHECK(area_stays(), true); /* the guard bytes too */
     memcpy(before + GUARD + AT_VOLTAGE, later, sizeof later);
     memcpy(before + GUARD + AT_TOTALS, (const uint8_t[]){0x90, 0xD0, 0x03, 0}, 4); /* a second of 250,000 */
     memcpy(before + GUARD + AT_COUNT, (const uint8_t[]){1, 0xF4, 0x01, 0x48, 0xE8, 0x01, 0}, 7); /* 500 ms of 125,000 */
     for (size_t i = 0; i < CELLS; i++)
         turned[i] = cells[CELLS - 1 - i];
     CHECK(snatchblock_thirteen_sample(area, AREA, 50001, 250, 3000, 0x12345678 + 1500, turned), 0);
-    CHECK(area_stays(), true); /* the guard bytes too */
+    CHECK(area_stays(), true);
     CHECK(AT_BEGUN + 4, AREA);
     CHECK(SNATCHBLOCK_THIRTEEN_AREA, AREA);
     CHECK(SNATCHBLOCK_THIRTEEN_CELLS, CELLS);
@@ -228,7 +232,7 @@ static void flags(void)
         else
             LOST();
     }
-    set_up(); /* which asks nothing of the bytes */
+    CHECK(snatchblock_thirteen_set_up_from(area, AREA, &sprayer, &at_work, cells), 0); /* asks nothing of the bytes */
     CHECK(snatchblock_thirteen_sound(area, AREA), true);
 }
 
@@ -552,8 +556,8 @@ static void written_out(void)
     REPLIES(CELL_1, 0x35, 0x0E, 0xE0);
     REPLIES(CELL_13, 0x8D, 0x0E, 0xEF);
     REPLIES(HEALTH, 0x61, 0x00, 0x64);
-    REPLIES(ALL_CELLS, 0x35, 0x0E, 0x7F, 0x0E, 0xFF, 0x0D, 0x00, 0x0F, 0x6E, 0x0E, 0xAB, 0x0E, 0x3C, 0x0F, 0x43, 0x0E, 0xBA,
-            0x0E, 0x76, 0x0E, 0xE3, 0x0E, 0x0F, 0x0E, 0x8D, 0x0E, 0x8E);
+    REPLIES(ALL_CELLS, 0x35, 0x0E, 0x7F, 0x0E, 0xFF, 0x0D, 0x00, 0x0F, 0x6E, 0x0E, 0xAB, 0x0E, 0x3C, 0x0F, 0x43, 0x0E,
+            0xBA, 0x0E, 0x76, 0x0E, 0xE3, 0x0E, 0x0F, 0x0E, 0x8D, 0x0E, 0x8E);
     REFUSED(8, false, 0x16, 0x4F, 0x63, 0x00, 0x18);
     REFUSED(8, false, 0x16, 0x16, 0x00, 0x00, 0xCC);
     REFUSED(8, false, 0x16, 0xF1, 0x00, 0x00, 0x14);
@@ -643,7 +647,8 @@ static void tens_written_out(void)
         uint16_t cut;
     } rows[] = {{0, 0, 0, 0},          {9, 0, 9, 0},          {10, 1, 10, 1},        {11, 1, -9, 0},
                 {19, 1, -10, 0xFFFF},  {20, 2, -11, 0xFFFF},  {99, 9, -19, 0xFFFF},  {100, 10, -20, 0xFFFE},
-                {2559, 255, 2559, 255}, {2560, 256, -2560, 0xFF00}, {65529, 6552, 32767, 3276}, {65535, 6553, -32768, 0xF334}};
+                {2559, 255, 2559, 255}, {2560, 256, -2560, 0xFF00},
+                {65529, 6552, 32767, 3276}, {65535, 6553, -32768, 0xF334}};
     set_up();
     for (size_t i = 0; i < sizeof rows / sizeof *rows; i++) {
         CHECK(snatchblock_thirteen_sample(area, AREA, rows[i].voltage, rows[i].current, 2982, 0x12345678, cells), 0);
@@ -1070,8 +1075,8 @@ static void addresses_lent(void)
         CHECK(snatchblock_thirteen_set_up_from(bytes + shift, AREA, &sprayer, &at_work, many + shift), 0);
         CHECK(snatchblock_thirteen_sample_from(bytes + shift, AREA, &at_work, many + shift), 0);
         CHECK(snatchblock_thirteen_sound(bytes + shift, AREA), true);
-        CHECK(snatchblock_thirteen_transact(bytes + shift, AREA, true, BYTES(0x16, 0xF1, 0x17), replies + shift, REPLY_ROOM),
-              PACKED(0, 27));
+        CHECK(snatchblock_thirteen_transact(bytes + shift, AREA, true, BYTES(0x16, 0xF1, 0x17), replies + shift,
+                                            REPLY_ROOM), PACKED(0, 27));
         CHECK(replies[shift + 26], 0x8E);
         CHECK(memcmp(many + shift, cells, sizeof cells), 0);
     }
@@ -1079,7 +1084,7 @@ static void addresses_lent(void)
 
 /* ---- alterations */
 
-/* One, two or three altered bits of a right write: its answer is no longer the write's, and the first byte alone may change. */
+/* One, two or three altered bits of a right write: it is answered 5 or 3, and the error code alone may change. */
 static unsigned taken;
 
 static void count_if_taken(const uint8_t altered[5])
@@ -1102,7 +1107,7 @@ static void alterations(void)
         each_altered(message[i], count_if_taken);
         CHECK(taken, 0);
     }
-    /* Four bits can be too many: with x^8 + x^2 + x + 1 itself 99 becomes 355 unseen. No write is served all the same. */
+    /* Four bits can be too many: with x^8 + x^2 + x + 1 itself 99 becomes 355, unseen. Nor is that served. */
     REFUSED(8, false, 0x16, 0x4F, 0x63, 0x01, 0x1F);
     READS(HEALTH, 97);
 }

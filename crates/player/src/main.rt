@@ -33,39 +33,13 @@ fn beginning() -> State {
     started.state
 }
 
-fn print_byte(b: u8) {
-    io::print_hex(STDOUT_FILENO, b as u64, 2);
-}
-
-fn print_reply(reply: &[u8]) {
-    let mut i = 0;
-    while i < reply.len() {
-        print_byte(reply[i]);
-        i += 1;
-    }
-}
-
-// The answer, then a space and the reply at the front of the room if there is one.
-fn print_line(answer: u8, room: &[u8], length: usize) {
-    io::print_decimal(STDOUT_FILENO, answer as u64);
-    if length == 0 {
-        io::write_all(STDOUT_FILENO, b"\n");
-        return;
-    }
-    if length <= room.len() {
-        io::write_all(STDOUT_FILENO, b" ");
-        print_reply(&room[..length]);
-    }
-    io::write_all(STDOUT_FILENO, b"\n");
-}
-
 // One row: the pack's answer is printed, and the state it leaves comes back.
 fn turn(s: State, read: bool, bytes: &[u8]) -> State {
     let service = [0u8; 1];
     let factory = [0u8; 1];
     let mut room = [0u8; 34];
     let out = bus::transact(s, &service, &factory, read, bytes, &mut room);
-    print_line(out.answer, &room, out.length);
+    lines::print_line(out.answer, &room, out.length);
     out.state
 }
 

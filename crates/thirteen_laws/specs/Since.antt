@@ -55,7 +55,7 @@ abbrev pub AsThePack : Type 0
 AsThePack =
     (u : Setup) (health : ℕ) (first : Sample) (cells : List ℕ) (es : List Event) → setUpOf u health first cells .answer ≡ 0
     → AsOne (run (fromSetUp u health first cells) es .pack)
-      (measuresAfter (unlimited (start.settingsOf u)) (measuresOf (start.packOf u first)) (samplesOf es))
+    (measuresAfter (unlimited (start.settingsOf u)) (measuresOf (start.packOf u first)) (samplesOf es))
 
 -- 2. where a pack in mAh measures the same, the registers 08, 0D, 11 and 13 give the same, word and answer
 abbrev pub WordsAsOne : Type 0

@@ -28,11 +28,13 @@ AtMostTenths = (degrees tenths : ℕ) → leb (hundredths tenths) (celsius degre
 
 -- ---- what sets each bit, by the latest sample
 
+-- at least 50 °C while it charges, at least 60 °C while it discharges
+abbrev pub isHot : Bool → Bool → ℕ → Bool
+isHot rises falls temperature = rises && leb (celsius 50) (hundredths temperature) || falls && leb (celsius 60) (hundredths temperature)
+
 -- 13 OVER_TEMPERATURE: at least 50 °C while current is above 0, at least 60 °C while it is below 0 (RULES 15.9)
 abbrev pub overTemperature : Latest → Bool
-overTemperature x =
-    above (x .current) && leb (celsius 50) (hundredths (x .temperature))
-    || below (x .current) && leb (celsius 60) (hundredths (x .temperature))
+overTemperature x = isHot (above (x .current)) (below (x .current)) (x .temperature)
 
 -- 12 UNDER_TEMPERATURE: at most 0 °C (RULES 15.9)
 abbrev pub underTemperature : Latest → Bool

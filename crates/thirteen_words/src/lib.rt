@@ -1,10 +1,12 @@
 // The words of the thirteen-cell pack, each with its answer, its status bits, and the bytes of all cells. Only our own crates call these.
 ghost use mathlib.Core.Path.{_≡_};
-ghost use Prim.Native.Nat.{_≤_};
+ghost use mathlib.Core.Bool.{_&&_};
+ghost use Prim.Native.Nat.{_/_, _≤_};
+ghost use lib.Dec.{leb, ltb};
 ghost use Rattle.commands.specs.Commands.{from};
 ghost use Rattle.thirteen_pack.specs.Facts.{SoundFacts};
 ghost use Rattle.thirteen_words.specs.Cells.{cellBytes};
-ghost use Rattle.thirteen_words.specs.Status.{overTemperature, underTemperature, dischargeOverCurrent, chargeOverCurrent, overVoltage, underVoltage, fullyCharged, statusOf};
+ghost use Rattle.thirteen_words.specs.Status.{hundredths, celsius, isHot, statusOf};
 ghost use Rattle.thirteen_words.specs.Word.{currentWord, remaining, runTimeToEmpty, averageTimeToFull, cellOf, givenOf, shownOf};
 use minutes::Given;
 use minutes::Time;
@@ -20,53 +22,52 @@ pub struct ThirteenShown {
 // ---- 16 BatteryStatus
 
 // Bit 13; 50 °C is 323.15 K and 60 °C 333.15 K, between two steps of 0.1 K each.
-fn over_temperature(x: Latest) -> bool
-    ensures { λ r. ⌜ r ≡ overTemperature x ⌝ }
+fn over_temperature(rises: bool, falls: bool, temperature: u16) -> bool
+    ensures { λ r. ⌜ r ≡ isHot rises falls temperature ⌝ }
 {
-    (words::rises(x.current) & (3232 <= x.temperature))
-        | (words::falls(x.current) & (3332 <= x.temperature))
+    (rises & (3232 <= temperature)) | (falls & (3332 <= temperature))
 }
 
 // Bit 12; 0 °C is 273.15 K.
-fn under_temperature(x: Latest) -> bool
-    ensures { λ r. ⌜ r ≡ underTemperature x ⌝ }
+fn under_temperature(temperature: u16) -> bool
+    ensures { λ r. ⌜ r ≡ leb (hundredths temperature) (celsius 0) ⌝ }
 {
-    x.temperature <= 2731
+    temperature <= 2731
 }
 
 // Bit 11.
-fn discharge_over_current(x: Latest) -> bool
-    ensures { λ r. ⌜ r ≡ dischargeOverCurrent x ⌝ }
+fn discharge_over_current(falls: bool, size: u32) -> bool
+    ensures { λ r. ⌜ r ≡ falls && leb 15000 size ⌝ }
 {
-    words::falls(x.current) & (15000 <= words::size(x.current))
+    falls & (15000 <= size)
 }
 
 // Bit 10.
-fn charge_over_current(x: Latest) -> bool
-    ensures { λ r. ⌜ r ≡ chargeOverCurrent x ⌝ }
+fn charge_over_current(rises: bool, size: u32) -> bool
+    ensures { λ r. ⌜ r ≡ rises && leb 2000 size ⌝ }
 {
-    words::rises(x.current) & (2000 <= words::size(x.current))
+    rises & (2000 <= size)
 }
 
 // Bit 9.
-fn over_voltage(x: Latest) -> bool
-    ensures { λ r. ⌜ r ≡ overVoltage x ⌝ }
+fn over_voltage(voltage: u16) -> bool
+    ensures { λ r. ⌜ r ≡ leb 54800 voltage ⌝ }
 {
-    54800 <= x.voltage
+    54800 <= voltage
 }
 
 // Bit 8.
-fn under_voltage(x: Latest) -> bool
-    ensures { λ r. ⌜ r ≡ underVoltage x ⌝ }
+fn under_voltage(voltage: u16) -> bool
+    ensures { λ r. ⌜ r ≡ leb voltage 39000 ⌝ }
 {
-    x.voltage <= 39000
+    voltage <= 39000
 }
 
 // Bit 5.
-fn fully_charged(x: Latest) -> bool
-    ensures { λ r. ⌜ r ≡ fullyCharged x ⌝ }
+fn fully_charged(rises: bool, size: u32, voltage: u16) -> bool
+    ensures { λ r. ⌜ r ≡ rises && leb size 99 && ltb 51000 voltage ⌝ }
 {
-    words::rises(x.current) & (words::size(x.current) <= 99) & (51000 < x.voltage)
+    rises & (size <= 99) & (51000 < voltage)
 }
 
 // 16 BatteryStatus; INITIALIZED alone is 0x0080.
@@ -74,19 +75,29 @@ fn status(p: Thirteen) -> u16
     ensures { λ r. ⌜ r ≡ statusOf p ⌝ }
 {
     let x = p.latest;
-    let hot = registers::flag(over_temperature(x), 0x2000);
-    let cold = registers::flag(under_temperature(x), 0x1000);
-    let drawn = registers::flag(discharge_over_current(x), 0x0800);
-    let put = registers::flag(charge_over_current(x), 0x0400);
-    let high = registers::flag(over_voltage(x), 0x0200);
-    let low = registers::flag(under_voltage(x), 0x0100);
-    let falling = registers::flag(words::falls(x.current), 0x0040);
-    let charged = registers::flag(fully_charged(x), 0x0020);
+    let rises = words::rises(x.current);
+    let falls = words::falls(x.current);
+    let size = words::size(x.current);
+    let hot = registers::flag(over_temperature(rises, falls, x.temperature), 0x2000);
+    let cold = registers::flag(under_temperature(x.temperature), 0x1000);
+    let drawn = registers::flag(discharge_over_current(falls, size), 0x0800);
+    let put = registers::flag(charge_over_current(rises, size), 0x0400);
+    let high = registers::flag(over_voltage(x.voltage), 0x0200);
+    let low = registers::flag(under_voltage(x.voltage), 0x0100);
+    let falling = registers::flag(falls, 0x0040);
+    let charged = registers::flag(fully_charged(rises, size, x.voltage), 0x0020);
     let empty = registers::flag(p.level.FullyDischarged, 0x0010);
     hot + cold + drawn + put + high + low + 0x0080 + falling + charged + empty
 }
 
 // ---- the other words
+
+// 09: in 10 mV, rounded down.
+fn voltage_word(voltage: u16) -> u16
+    ensures { λ r. ⌜ r ≡ voltage / 10 ⌝ }
+{
+    voltage / 10
+}
 
 // 0A: in 10 mA, cut toward zero.
 fn current_word(current: u16) -> u16
@@ -151,7 +162,7 @@ fn register(p: Thirteen, command: u8) -> Given
     }
     match command {
         0x08 => Given::Word(p.latest.temperature),
-        0x09 => Given::Word(p.latest.voltage / 10),
+        0x09 => Given::Word(voltage_word(p.latest.voltage)),
         0x0A => Given::Word(current_word(p.latest.current)),
         0x0D => Given::Word(capacity::relative(p.level.charge, p.level.full)),
         0x11 => Given::Until(run_time_to_empty(p)),

@@ -6,7 +6,7 @@ use Rattle.thirteen_words.proofs.under_temperature.Statement.{statement
 use Rattle.thirteen_words.proofs.under_temperature.Tie as tie
 
 returns : tie.Need-returns
-returns c = sym (at-most-tenths 0 (c .before .args .x .temperature))
+returns c = sym (at-most-tenths 0 (c .args .temperature))
 
 pub under-temperature-spec : {M : Type 1} → statement M
 under-temperature-spec = tie.close (tie.spec returns)

@@ -1,9 +1,9 @@
--- `player::print_reply` ends, and reads only the reply. Assumes nothing.
+-- `lines::print_reply` ends, and reads only the reply. Assumes nothing.
 use Prim.Native.Nat.{_≤_, _-_}
 use lib.ListN.{length}
 use borrow.Author.Needs.{needs}
-use Rattle.player.proofs.print_reply.Statement.{statement}
-use Rattle.player.proofs.print_reply.Tie as tie
+use Rattle.lines.proofs.print_reply.Statement.{statement}
+use Rattle.lines.proofs.print_reply.Tie as tie
 
 abbrev Inv-loop : tie.InvT-loop
 Inv-loop reply i₀ i = i ≤ length reply

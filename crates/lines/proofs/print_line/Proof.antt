@@ -1,9 +1,9 @@
--- `player::print_line` reads only the front of the room. Assumes nothing.
+-- `lines::print_line` reads only the front of the room. Assumes nothing.
 use borrow.Author.Needs.{needs}
 use lib.ListN.{length-take}
 use native.Mathlib.Omega.{arith}
-use Rattle.player.proofs.print_line.Statement.{statement}
-use Rattle.player.proofs.print_line.Tie as tie
+use Rattle.lines.proofs.print_line.Statement.{statement}
+use Rattle.lines.proofs.print_line.Tie as tie
 
 slice-aggregate-print-reply : tie.Need-slice-aggregate-print-reply
 slice-aggregate-print-reply c = simp length-take (omega arith)
