@@ -4,7 +4,8 @@
  * A firmware lends an area of SNATCHBLOCK_AREA bytes. It sets the area up once (snatchblock_set_up_from), brings a
  * sample each second (snatchblock_sample_from) and hands over what the bus driver heard (snatchblock_transact).
  * examples/firmware/pack.c does so and can be copied. A charger's firmware does the same with an area of
- * SNATCHBLOCK_CHARGER_AREA bytes. All else here is for tools: keys, sheets, captures, the shelf.
+ * SNATCHBLOCK_CHARGER_AREA bytes, that of a thirteen-cell pack with one of SNATCHBLOCK_THIRTEEN_AREA (examples/thirteen).
+ * All else here is for tools: keys, sheets, captures, the shelf.
  *
  * To link: libsnatchblock.a alone (`rt staticlib snatchblock`; x86-64 Linux today). It calls the C library's memcpy
  * and memset and nothing else. It has no heap, no variables and no start: all that it knows lies in what a call lends.
@@ -16,7 +17,8 @@
  *
  * Slices: a pointer and the length after it are bytes lent for the call. No pointer is null, not even at length 0: give
  * the address of any byte there. Every length and every address is allowed, with no alignment. What is lent for writing
- * (a pointer without const) overlaps nothing else lent to that call. A bool is 0 or 1.
+ * (a pointer without const) overlaps nothing else lent to that call. A bool is 0 or 1. The one array that comes without
+ * a length, thirteen cells, is one of uint16_t at its own alignment.
  *
  * One call at a time on one area. If transactions come from an interrupt, mask it around every call, and every copy of
  * the area, that the loop makes; the bus hardware holds the clock meanwhile. Calls on other areas may run beside it.
@@ -49,7 +51,8 @@ enum snatchblock_answer {
     SNATCHBLOCK_SMALL_ROOM = 2,        /* a room for a reply under 34 bytes, of the charger 3, broadcasts 20 (plain: 16),
                                           the shelf 16 */
     SNATCHBLOCK_OTHER_ADDRESS = 3,     /* no bytes, or the first isn't 16, for the charger 12 */
-    SNATCHBLOCK_WRONG_FORM = 4,        /* wrong size or form (6, BadSize); a shelf's table that isn't whole rows */
+    SNATCHBLOCK_WRONG_FORM = 4,        /* wrong size or form (6, BadSize), of the thirteen-cell pack also a write without
+                                          PEC; a shelf's table that isn't whole rows */
     SNATCHBLOCK_WRONG_PEC = 5,         /* a write of five bytes, its PEC wrong (7, UnknownError) */
     SNATCHBLOCK_RESERVED_COMMAND = 6,  /* (2, ReservedCommand) */
     SNATCHBLOCK_COMMAND_NOT_BUILT = 7, /* an optional command that this pack hasn't (3, UnsupportedCommand) */
@@ -76,11 +79,13 @@ enum snatchblock_answer {
  * of a room, and of the area only what snatchblock_transact says.
  *
  *   result of                         bits: what stands there
- *   all these, set_up, charger_set_up
- *     and charger_sample              0-7: the answer
+ *   all these, set_up, charger_set_up,
+ *     charger_sample, thirteen_set_up
+ *     and thirteen_sample             0-7: the answer
  *   sample, transact, write_key,
  *     unescape, write_sheet,
- *     shelf_report, charger_transact  8-31: the bytes written to the front of the room; the rest of it stays
+ *     shelf_report, charger_transact,
+ *     thirteen_transact               8-31: the bytes written to the front of the room; the rest of it stays
  *   set_body, remove_body             8-31: the new sheet's length
  *   charger_current                   8-23: the current in mA
  *   exchange_check                    8: right

@@ -5,7 +5,7 @@ use mathlib.Core.Bool.{Bool, true, false, cond}
 use native.Mathlib.Omega.{arith}
 use lib.Dec.{eqb}
 use Rattle.bus.specs.Transact.{packAfter, asked, transactOf}
-use Rattle.bus_laws.proofs.Soundness.{code-most}
+use Rattle.commands.proofs.Answers.{code-most}
 use Rattle.bus_laws.specs.Calls.{answer}
 use Rattle.bus_laws.specs.Promises.{FitsStays}
 use Rattle.commands.specs.Answers.{served}

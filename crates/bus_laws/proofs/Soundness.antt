@@ -8,7 +8,7 @@ use lib.Dec.{eqb}
 use Rattle.bus.specs.Transact.{packAfter, asked, transactOf}
 use Rattle.bus_laws.specs.Calls.{answer}
 use Rattle.bus_laws.specs.Promises.{SoundStays}
-use Rattle.capacity.proofs.Bounds.{at-most}
+use Rattle.commands.proofs.Answers.{code-most}
 use Rattle.commands.specs.Answers.{codeAfter, served}
 use Rattle.frame.specs.declared.Request.{Request}
 use Rattle.frame.specs.declared.Request.the-variants.{Refused, Read, Write}
@@ -18,19 +18,6 @@ use Rattle.pack.specs.declared.Host.{Host}
 use Rattle.pack.specs.declared.Timers.{Timers}
 use Rattle.pack.specs.declared.State.{State}
 use Rattle.written.specs.Written.{bitSet, hostWritten, timersWritten, packWritten}
-
--- the table leaves a code of at most 7, or what was there
-pub code-most : (most n before : ℕ) → 7 ≤ most → before ≤ most → codeAfter n before ≤ most
-unfolding codeAfter
-code-most most n before m h =
-    at-most (eqb n 0) _ _ _ (omega arith)
-    (at-most (eqb n 4) _ _ _ (omega (arith, m))
-    (at-most (eqb n 5) _ _ _ (omega (arith, m))
-    (at-most (eqb n 6) _ _ _ (omega (arith, m))
-    (at-most (eqb n 7) _ _ _ (omega (arith, m))
-    (at-most (eqb n 8) _ _ _ (omega (arith, m))
-    (at-most (eqb n 9) _ _ _ (omega (arith, m))
-    (at-most (eqb n 10) _ _ _ (omega (arith, m)) h)))))))
 
 -- ---- a write to 03 or not (here), with bit 13 or 14 (b), over a timer (t) and a mode bit (m)
 

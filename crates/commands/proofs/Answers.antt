@@ -7,12 +7,13 @@ use mathlib.Core.Logic.{_⊎_, inl, inr}
 use mathlib.Core.Path.{_≡_, refl, sym, ap}
 use native.Mathlib.Omega.{arith}
 use borrow.Author.Tests.{lt-ltb, le-ltb}
-use lib.Dec.{ltb}
+use lib.Dec.{eqb, ltb}
 use lib.ListN.{length}
-use Rattle.commands.specs.Answers.{Side, writeAnswer, bare, requestAnswer, sideAnswer, served, readBody, sideReply}
+use Rattle.commands.specs.Answers.{Side, writeAnswer, bare, requestAnswer, sideAnswer, served, codeAfter, readBody, sideReply}
 use Rattle.commands.specs.declared.Kind.{Kind}
 use Rattle.commands.specs.declared.Kind.the-variants.{ReadWrite, ReadOnly, WriteOnly, Block, Optional, Reserved}
 use Rattle.frame.proofs.Replies.{reply-length}
+use Rattle.rooms.proofs.Choice.{chosen}
 use Rattle.frame.specs.Transactions.{replyOf}
 use Rattle.frame.specs.declared.Request.{Request}
 use Rattle.frame.specs.declared.Request.the-variants.{Refused, Read, Write}
@@ -63,6 +64,19 @@ reply-most d most w b bytes (Read command) answer = go (served answer)
     go true = omega (arith, reply-length bytes body, body-most d most command (d .kinds command) w (b command))
     go false = omega arith
 reply-most d most w b bytes (Write command word checked) answer = omega arith
+
+-- the table leaves a code of at most 7, or what was there
+pub code-most : (most n before : ℕ) → 7 ≤ most → before ≤ most → codeAfter n before ≤ most
+unfolding codeAfter
+code-most most n before m h =
+    chosen (λ c. c ≤ most) (eqb n 0) (λ e. omega arith)
+    (λ e. chosen (λ c. c ≤ most) (eqb n 4) (λ f. omega (arith, m))
+    (λ f. chosen (λ c. c ≤ most) (eqb n 5) (λ g. omega (arith, m))
+    (λ g. chosen (λ c. c ≤ most) (eqb n 6) (λ i. omega (arith, m))
+    (λ i. chosen (λ c. c ≤ most) (eqb n 7) (λ j. omega (arith, m))
+    (λ j. chosen (λ c. c ≤ most) (eqb n 8) (λ k. omega (arith, m))
+    (λ k. chosen (λ c. c ≤ most) (eqb n 9) (λ l. omega (arith, m))
+    (λ l. chosen (λ c. c ≤ most) (eqb n 10) (λ o. omega (arith, m)) (λ o. h))))))))
 
 -- a write that isn't answered 0 isn't served
 pub write-refused : (kind : Kind) → (writeAnswer kind ≡ 0 → ⊥) → served (writeAnswer kind) ≡ false

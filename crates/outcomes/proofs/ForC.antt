@@ -2,7 +2,7 @@
 -- Assumes nothing.
 use mathlib.Core.Path.{refl}
 use Rattle.outcomes.specs.Outcome.{Settled}
-use Rattle.outcomes.specs.ForC.{snatchblockPecTerms, snatchblockExchangeCheckTerms, snatchblockBitComparisonTerms, snatchblockWriteKeyTerms, snatchblockReadKeyTerms, snatchblockUnescapeTerms, snatchblockWriteSheetTerms, snatchblockSetBodyTerms, snatchblockRemoveBodyTerms, snatchblockIsSheetTerms, snatchblockBlockTerms, snatchblockOpenCaptureTerms, snatchblockStepCaptureTerms, snatchblockShelfReportTerms, snatchblockSetUpTerms, snatchblockSoundTerms, snatchblockSampleTerms, snatchblockTransactTerms, snatchblockChargerSetUpTerms, snatchblockChargerSoundTerms, snatchblockChargerSampleTerms, snatchblockChargerTransactTerms, snatchblockChargerCurrentTerms}
+use Rattle.outcomes.specs.ForC.{snatchblockPecTerms, snatchblockExchangeCheckTerms, snatchblockBitComparisonTerms, snatchblockWriteKeyTerms, snatchblockReadKeyTerms, snatchblockUnescapeTerms, snatchblockWriteSheetTerms, snatchblockSetBodyTerms, snatchblockRemoveBodyTerms, snatchblockIsSheetTerms, snatchblockBlockTerms, snatchblockOpenCaptureTerms, snatchblockStepCaptureTerms, snatchblockShelfReportTerms, snatchblockSetUpTerms, snatchblockSoundTerms, snatchblockSampleTerms, snatchblockTransactTerms, snatchblockChargerSetUpTerms, snatchblockChargerSoundTerms, snatchblockChargerSampleTerms, snatchblockChargerTransactTerms, snatchblockChargerCurrentTerms, snatchblockThirteenSetUpTerms, snatchblockThirteenSoundTerms, snatchblockThirteenSampleTerms, snatchblockThirteenTransactTerms}
 use Rattle.outcomes.proofs.One.{settled}
 use Rattle.snatchblock.proofs.snatchblock_pec as snatchblock-pec-owed
 use Rattle.snatchblock.proofs.snatchblock_exchange_check as snatchblock-exchange-check-owed
@@ -27,6 +27,10 @@ use Rattle.snatchblock.proofs.snatchblock_charger_sound as snatchblock-charger-
 use Rattle.snatchblock.proofs.snatchblock_charger_sample as snatchblock-charger-sample-owed
 use Rattle.snatchblock.proofs.snatchblock_charger_transact as snatchblock-charger-transact-owed
 use Rattle.snatchblock.proofs.snatchblock_charger_current as snatchblock-charger-current-owed
+use Rattle.snatchblock.proofs.snatchblock_thirteen_set_up as snatchblock-thirteen-set-up-owed
+use Rattle.snatchblock.proofs.snatchblock_thirteen_sound as snatchblock-thirteen-sound-owed
+use Rattle.snatchblock.proofs.snatchblock_thirteen_sample as snatchblock-thirteen-sample-owed
+use Rattle.snatchblock.proofs.snatchblock_thirteen_transact as snatchblock-thirteen-transact-owed
 
 pub snatchblock-pec-settled : Settled (λ M. snatchblock-pec-owed.clauses {M = M}) snatchblockPecTerms
 snatchblock-pec-settled = settled snatchblockPecTerms (λ M 𝓤 H A memory run. refl)
@@ -96,3 +100,15 @@ snatchblock-charger-transact-settled = settled snatchblockChargerTransactTerms (
 
 pub snatchblock-charger-current-settled : Settled (λ M. snatchblock-charger-current-owed.clauses {M = M}) snatchblockChargerCurrentTerms
 snatchblock-charger-current-settled = settled snatchblockChargerCurrentTerms (λ M 𝓤 H A memory run. refl)
+
+pub snatchblock-thirteen-set-up-settled : Settled (λ M. snatchblock-thirteen-set-up-owed.clauses {M = M}) snatchblockThirteenSetUpTerms
+snatchblock-thirteen-set-up-settled = settled snatchblockThirteenSetUpTerms (λ M 𝓤 H A memory run. refl)
+
+pub snatchblock-thirteen-sound-settled : Settled (λ M. snatchblock-thirteen-sound-owed.clauses {M = M}) snatchblockThirteenSoundTerms
+snatchblock-thirteen-sound-settled = settled snatchblockThirteenSoundTerms (λ M 𝓤 H A memory run. refl)
+
+pub snatchblock-thirteen-sample-settled : Settled (λ M. snatchblock-thirteen-sample-owed.clauses {M = M}) snatchblockThirteenSampleTerms
+snatchblock-thirteen-sample-settled = settled snatchblockThirteenSampleTerms (λ M 𝓤 H A memory run. refl)
+
+pub snatchblock-thirteen-transact-settled : Settled (λ M. snatchblock-thirteen-transact-owed.clauses {M = M}) snatchblockThirteenTransactTerms
+snatchblock-thirteen-transact-settled = settled snatchblockThirteenTransactTerms (λ M 𝓤 H A memory run. refl)

@@ -17,7 +17,9 @@ use Rattle.sheet.specs.Sheet.{isSheet}
 use Rattle.sheet_edit.specs.Edit.{editOf, roomAfter}
 use Rattle.sheet_writer.specs.Writing as sheets
 use Rattle.shelf_table.specs.Table.{tableRoom, tableWrote}
-use Rattle.snatchblock.specs.Given.{sampleWith, setupWith}
+use Rattle.snatchblock.specs.Given.{sampleWith, setupWith, thirteenSetupWith}
+use Rattle.thirteen_calls.specs.Calls as thirteens
+use Rattle.thirteen_pack.specs.SetUp.{setUpOf as thirteenSetUpOf}
 use denote.Ref.{now}
 use mathlib.Core.Bool.{Bool}
 use mathlib.Core.List.{List, [], _∷_}
@@ -45,6 +47,10 @@ use Rattle.snatchblock.proofs.snatchblock_charger_sound as snatchblock-charger-
 use Rattle.snatchblock.proofs.snatchblock_charger_sample as snatchblock-charger-sample-owed
 use Rattle.snatchblock.proofs.snatchblock_charger_transact as snatchblock-charger-transact-owed
 use Rattle.snatchblock.proofs.snatchblock_charger_current as snatchblock-charger-current-owed
+use Rattle.snatchblock.proofs.snatchblock_thirteen_set_up as snatchblock-thirteen-set-up-owed
+use Rattle.snatchblock.proofs.snatchblock_thirteen_sound as snatchblock-thirteen-sound-owed
+use Rattle.snatchblock.proofs.snatchblock_thirteen_sample as snatchblock-thirteen-sample-owed
+use Rattle.snatchblock.proofs.snatchblock_thirteen_transact as snatchblock-thirteen-transact-owed
 
 -- `snatchblock_pec`
 abbrev pub snatchblockPecTerms : Terms snatchblock-pec-owed.ended
@@ -206,3 +212,31 @@ snatchblockChargerCurrentTerms = termsOf
     (ℕ ∷ [])
     (λ κs r _. (r, tt))
     (λ κs (area, _). (chargers.currentNumber (now area), tt))
+
+-- `snatchblock_thirteen_set_up`
+abbrev pub snatchblockThirteenSetUpTerms : Terms snatchblock-thirteen-set-up-owed.ended
+snatchblockThirteenSetUpTerms = termsOf
+    (ℕ ∷ List ℕ ∷ [])
+    (λ κs r (area, (_, (_, (_, (_, (_, (_, (_, (_, (_, (_, _))))))))))). (r, (now area, tt)))
+    (λ κs (area, (DesignCapacity, (full, (remaining, (DesignVoltage, (StateOfHealth, (voltage, (current, (temperature, (counter, (cells, _))))))))))). (thirteens.startNumber (now area) (thirteenSetUpOf (thirteenSetupWith DesignCapacity full remaining DesignVoltage) StateOfHealth (sampleWith voltage current temperature counter) (now cells)), (thirteens.startArea (now area) (thirteenSetUpOf (thirteenSetupWith DesignCapacity full remaining DesignVoltage) StateOfHealth (sampleWith voltage current temperature counter) (now cells)), tt)))
+
+-- `snatchblock_thirteen_sound`
+abbrev pub snatchblockThirteenSoundTerms : Terms snatchblock-thirteen-sound-owed.ended
+snatchblockThirteenSoundTerms = termsOf
+    (Bool ∷ [])
+    (λ κs r _. (r, tt))
+    (λ κs (area, _). (thirteens.soundIn (now area), tt))
+
+-- `snatchblock_thirteen_sample`
+abbrev pub snatchblockThirteenSampleTerms : Terms snatchblock-thirteen-sample-owed.ended
+snatchblockThirteenSampleTerms = termsOf
+    (ℕ ∷ List ℕ ∷ [])
+    (λ κs r (area, (_, (_, (_, (_, (_, _)))))). (r, (now area, tt)))
+    (λ κs (area, (voltage, (current, (temperature, (counter, (cells, _)))))). (thirteens.sampleNumber (now area) (sampleWith voltage current temperature counter) (now cells), (thirteens.sampleArea (now area) (sampleWith voltage current temperature counter) (now cells), tt)))
+
+-- `snatchblock_thirteen_transact`
+abbrev pub snatchblockThirteenTransactTerms : Terms snatchblock-thirteen-transact-owed.ended
+snatchblockThirteenTransactTerms = termsOf
+    (ℕ ∷ List ℕ ∷ List ℕ ∷ [])
+    (λ κs r (area, (_, (_, (room, _)))). (r, (now area, (now room, tt))))
+    (λ κs (area, (read, (bytes, (room, _)))). (thirteens.transactNumber (now area) read (now bytes) (now room), (thirteens.transactArea (now area) read (now bytes) (now room), (thirteens.transactRoom (now area) read (now bytes) (now room), tt))))

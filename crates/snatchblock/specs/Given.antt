@@ -1,6 +1,6 @@
 -- What C gives one by one, put together. Definitions: assumes nothing.
 use Prim.Native.Nat.{ℕ}
-use mathlib.Core.Bool.{Bool}
+use mathlib.Core.Bool.{Bool, false}
 use lib.IntN.{ℤ}
 use Rattle.pack.specs.declared.Sample.{Sample}
 use Rattle.start.specs.declared.Setup.{Setup}
@@ -26,3 +26,7 @@ setupWith DesignCapacity full remaining DesignVoltage MaxError CycleCount Manufa
       DischargeLimit = DischargeLimit;
       plain = plain;
     }
+
+-- the thirteen-cell pack keeps four of these; C gives no others, and they are 0 (RULES 15.4)
+abbrev pub thirteenSetupWith : ℕ → ℕ → ℕ → ℕ → Setup
+thirteenSetupWith DesignCapacity full remaining DesignVoltage = setupWith DesignCapacity full remaining DesignVoltage 0 0 0 0 0 0 0 0 false

@@ -16,7 +16,9 @@ ghost use Rattle.sheet.specs.Sheet.{isSheet};
 ghost use Rattle.sheet_edit.specs.Edit.{editOf, roomAfter};
 ghost use Rattle.sheet_writer.specs.Writing as sheets;
 ghost use Rattle.shelf_table.specs.Table.{tableWrote, tableRoom};
-ghost use Rattle.snatchblock.specs.Given.{sampleWith, setupWith};
+ghost use Rattle.snatchblock.specs.Given.{sampleWith, setupWith, thirteenSetupWith};
+ghost use Rattle.thirteen_calls.specs.Calls as thirteens;
+ghost use Rattle.thirteen_pack.specs.SetUp.{setUpOf as thirteenSetUpOf};
 use key::Read;
 use pack::Sample;
 use start::Setup;
@@ -331,4 +333,98 @@ pub extern "C" fn snatchblock_charger_current(area: &[u8]) -> u32
     ensures { λ r. ⌜ r ≡ chargers.currentNumber (now (area .entry)) ⌝ }
 {
     charger_calls::current(area)
+}
+
+// ---- the thirteen-cell pack
+
+// What this pack doesn't keep is 0.
+fn thirteen_setup(DesignCapacity: u16, full: u16, remaining: u16, DesignVoltage: u16) -> Setup
+    ensures { λ r. ⌜ r ≡ thirteenSetupWith DesignCapacity full remaining DesignVoltage ⌝ }
+{
+    Setup {
+        DesignCapacity,
+        full,
+        remaining,
+        DesignVoltage,
+        MaxError: 0,
+        CycleCount: 0,
+        ManufactureDate: 0,
+        SerialNumber: 0,
+        ChargingCurrent: 0,
+        ChargingVoltage: 0,
+        TemperatureLimit: 0,
+        DischargeLimit: 0,
+        plain: false,
+    }
+}
+
+#[no_mangle]
+pub extern "C" fn snatchblock_thirteen_set_up(
+    area: &mut [u8],
+    DesignCapacity: u16,
+    full: u16,
+    remaining: u16,
+    DesignVoltage: u16,
+    StateOfHealth: u16,
+    voltage: u16,
+    current: i16,
+    temperature: u16,
+    counter: u32,
+    cells: &[u16; 13],
+) -> u32
+    ensures { λ r. ⌜ r ≡ thirteens.startNumber (now (area .entry)) (thirteenSetUpOf (thirteenSetupWith DesignCapacity full remaining DesignVoltage) StateOfHealth (sampleWith voltage current temperature counter) (now (cells .entry))) ⌝ }
+    ensures { λ _. ⌜ now (area .exit) ≡ thirteens.startArea (now (area .entry)) (thirteenSetUpOf (thirteenSetupWith DesignCapacity full remaining DesignVoltage) StateOfHealth (sampleWith voltage current temperature counter) (now (cells .entry))) ⌝ }
+{
+    let setup = thirteen_setup(DesignCapacity, full, remaining, DesignVoltage);
+    let first = Sample {
+        voltage: voltage,
+        current: current,
+        temperature: temperature,
+        counter: counter,
+    };
+    let copy = *cells;
+    thirteen_calls::set_up(area, setup, StateOfHealth, first, copy)
+}
+
+#[no_mangle]
+pub extern "C" fn snatchblock_thirteen_sound(area: &[u8]) -> bool
+    ensures { λ r. ⌜ r ≡ thirteens.soundIn (now (area .entry)) ⌝ }
+{
+    thirteen_calls::sound(area)
+}
+
+#[no_mangle]
+pub extern "C" fn snatchblock_thirteen_sample(
+    area: &mut [u8],
+    voltage: u16,
+    current: i16,
+    temperature: u16,
+    counter: u32,
+    cells: &[u16; 13],
+) -> u32
+    ensures { λ r. ⌜ r ≡ thirteens.sampleNumber (now (area .entry)) (sampleWith voltage current temperature counter) (now (cells .entry)) ⌝ }
+    ensures { λ _. ⌜ now (area .exit) ≡ thirteens.sampleArea (now (area .entry)) (sampleWith voltage current temperature counter) (now (cells .entry)) ⌝ }
+{
+    let sample = Sample {
+        voltage: voltage,
+        current: current,
+        temperature: temperature,
+        counter: counter,
+    };
+    let copy = *cells;
+    thirteen_calls::sample(area, sample, copy)
+}
+
+#[no_mangle]
+pub extern "C" fn snatchblock_thirteen_transact(
+    area: &mut [u8],
+    read: bool,
+    bytes: &[u8],
+    room: &mut [u8],
+) -> u32
+    ensures { λ r. ⌜ r ≡ thirteens.transactNumber (now (area .entry)) read (now (bytes .entry)) (now (room .entry)) ⌝ }
+    ensures { λ _. ⌜ now (area .exit) ≡ thirteens.transactArea (now (area .entry)) read (now (bytes .entry)) (now (room .entry)) ⌝ }
+    ensures { λ _. ⌜ now (room .exit) ≡ thirteens.transactRoom (now (area .entry)) read (now (bytes .entry)) (now (room .entry)) ⌝ }
+{
+    thirteen_calls::transact(area, read, bytes, room)
 }

@@ -19,7 +19,6 @@ use Rattle.capture.specs.declared.Step.{Step}
 use Rattle.capture.specs.declared.Step.the-variants.{Next, End, NotCapture}
 use Rattle.charger.specs.Charger.{currentOf}
 use Rattle.charger.specs.Transact as charger
-use Rattle.charger.specs.declared.Charger.{Charger}
 use Rattle.charger_area.specs.Area.{chargerIn, isChargerArea}
 use Rattle.charger_calls.specs.Calls as chargers
 use Rattle.clock.proofs.Outcome.{outcome}
@@ -43,7 +42,10 @@ use Rattle.sheet.specs.declared.Located.{Located}
 use Rattle.sheet_edit.specs.Edit.{editAnswer, editOf}
 use Rattle.sheet_writer.specs.Writing.{writable, sheetWrote}
 use Rattle.shelf_table.specs.Table.{tableAnswer}
-use Rattle.snatchblock_laws.specs.Bare.{Bare, WroteBare, CheckBare, ComparisonBare, KeyBare, NameBare, ReadBare, SheetBare, EditBare, BlockBare, OpenedBare, StepBare, ShelfBare, SampleBare, TransactBare, ChargerSampleBare, ChargerTransactBare, ChargerCurrentBare}
+use Rattle.thirteen.specs.Transact as thirteen
+use Rattle.thirteen_area.specs.Area.{isThirteenArea, stateIn as thirteenIn}
+use Rattle.thirteen_calls.specs.Calls as thirteens
+use Rattle.snatchblock_laws.specs.Bare.{Bare, WroteBare, CheckBare, ComparisonBare, KeyBare, NameBare, ReadBare, SheetBare, EditBare, BlockBare, OpenedBare, StepBare, ShelfBare, SampleBare, TransactBare, ChargerSampleBare, ChargerTransactBare, ChargerCurrentBare, ThirteenSampleBare, ThirteenTransactBare}
 
 -- answer 0 is no refusal
 served-bare : {n : ℕ} → Bare 0 n
@@ -126,28 +128,23 @@ sample-bare area sample room = go (isArea area)
     go true = sampled-bare (stateIn area) sample (length room)
     go false = λ _. refl
 
--- of either side: only a served read has a reply
+-- of every side: only a served read has a reply
 reply-bare : (d : Side) (bytes : List ℕ) (q : Request) (answer : ℕ) → Bare answer (packed answer (length (sideReply d bytes q answer)))
 reply-bare d bytes (Refused n) answer h = omega arith
 reply-bare d bytes (Read command) answer h = rw h (omega arith)
 reply-bare d bytes (Write command word checked) answer h = omega arith
 
+-- so of its number, where the bytes are an area and where they are none
+side-bare : (d : Side) (bytes : List ℕ) (q : Request) (answer : ℕ) (held : Bool)
+    → Bare (cond held answer 1) (cond held (packed answer (length (sideReply d bytes q answer))) 1)
+side-bare d bytes q answer true = reply-bare d bytes q answer
+side-bare d bytes q answer false = λ _. refl
+
 pub transact-bare : TransactBare
 unfolding transactNumber transactOf
-transact-bare area service factory read bytes room = go (isArea area)
-  where
-    s : State
-    s = stateIn area
-
-    answer : ℕ
-    answer = transactAnswer s service factory read bytes (length room)
-
-    above : ℕ
-    above = length (sideReply (packSide s service factory) bytes (asked read bytes) answer)
-
-    go : (b : Bool) → Bare (cond b answer noState) (cond b (packed answer above) noState)
-    go true = reply-bare (packSide s service factory) bytes (asked read bytes) answer
-    go false = λ _. refl
+transact-bare area service factory read bytes room =
+    let s = stateIn area in
+    side-bare (packSide s service factory) bytes (asked read bytes) (transactAnswer s service factory read bytes (length room)) (isArea area)
 
 -- ---- the charger
 
@@ -157,20 +154,9 @@ charger-sample-bare area sample h = refl
 
 pub charger-transact-bare : ChargerTransactBare
 unfolding chargers.transactNumber charger.transactOf
-charger-transact-bare area read bytes room = go (isChargerArea area)
-  where
-    s : Charger
-    s = chargerIn area
-
-    answer : ℕ
-    answer = charger.transactAnswer s read bytes (length room)
-
-    above : ℕ
-    above = length (sideReply (charger.chargerSide s) bytes (charger.asked read bytes) answer)
-
-    go : (b : Bool) → Bare (cond b answer 1) (cond b (packed answer above) 1)
-    go true = reply-bare (charger.chargerSide s) bytes (charger.asked read bytes) answer
-    go false = λ _. refl
+charger-transact-bare area read bytes room =
+    let s = chargerIn area in
+    side-bare (charger.chargerSide s) bytes (charger.asked read bytes) (charger.transactAnswer s read bytes (length room)) (isChargerArea area)
 
 pub charger-current-bare : ChargerCurrentBare
 charger-current-bare area = go (chargers.soundIn area)
@@ -178,3 +164,15 @@ charger-current-bare area = go (chargers.soundIn area)
     go : (b : Bool) → Bare (cond b 0 1) (cond b (packed 0 (currentOf (chargerIn area))) 1)
     go true = served-bare
     go false = λ _. refl
+
+-- ---- the thirteen-cell pack
+
+pub thirteen-sample-bare : ThirteenSampleBare
+unfolding thirteens.sampleNumber
+thirteen-sample-bare area sample cells h = refl
+
+pub thirteen-transact-bare : ThirteenTransactBare
+unfolding thirteens.transactNumber thirteen.transactOf thirteen.transactReply
+thirteen-transact-bare area read bytes room =
+    let s = thirteenIn area in
+    side-bare (thirteen.thirteenSide s) bytes (thirteen.asked read bytes) (thirteen.transactAnswer s read bytes (length room)) (isThirteenArea area)

@@ -23,6 +23,8 @@ use Rattle.sheet.specs.Sheet.{Entry}
 use Rattle.sheet_edit.specs.Edit.{editOf}
 use Rattle.sheet_writer.specs.Writing.{sheetWrote}
 use Rattle.shelf_table.specs.Table.{tableWrote}
+use Rattle.thirteen_area.specs.Area.{isThirteenArea}
+use Rattle.thirteen_calls.specs.Calls as thirteens
 
 -- where the answer is a refusal, the number is the answer
 abbrev pub Bare : ℕ → ℕ → Type 0
@@ -88,3 +90,15 @@ ChargerTransactBare =
 
 abbrev pub ChargerCurrentBare : Type 0
 ChargerCurrentBare = (area : List ℕ) → Bare (cond (chargers.soundIn area) 0 1) (chargers.currentNumber area)
+
+-- ---- the thirteen-cell pack (set-up's number is its answer)
+
+abbrev pub ThirteenSampleBare : Type 0
+ThirteenSampleBare =
+    (area : List ℕ) (sample : Sample) (cells : List ℕ)
+    → Bare (cond (isThirteenArea area) (thirteens.sampled area sample cells .answer) 1) (thirteens.sampleNumber area sample cells)
+
+abbrev pub ThirteenTransactBare : Type 0
+ThirteenTransactBare =
+    (area : List ℕ) (read : Bool) (bytes room : List ℕ)
+    → Bare (cond (isThirteenArea area) (thirteens.transacted area read bytes room .answer) 1) (thirteens.transactNumber area read bytes room)

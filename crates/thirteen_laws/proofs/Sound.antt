@@ -8,7 +8,7 @@ use mathlib.Core.Path.{_≡_, refl}
 use native.Mathlib.Nat.{mul-le-mul-right}
 use native.Mathlib.Omega.{arith}
 use lib.Dec.{eqb}
-use Rattle.bus_laws.proofs.Soundness.{code-most}
+use Rattle.commands.proofs.Answers.{code-most}
 use Rattle.clock.specs.Sample.{elapsedOf}
 use Rattle.pack.proofs.Kept.{kept-fits}
 use Rattle.pack.specs.Fits.{SampleFits}
