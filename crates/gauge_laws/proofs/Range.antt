@@ -37,7 +37,7 @@ capacity-word : (p : Pack) (capacity : ℕ) → capacity < 65536 → capacityOf 
 capacity-word p capacity h = pick (p .host .CapacityMode) _ _ (omega arith) h
 
 -- of two that a register gives, one with a word below 65,536
-row : (b : Bool) (x y : Given) → givenWord x < 65536 → givenWord y < 65536 → givenWord (cond b x y) < 65536
+pub row : (b : Bool) (x y : Given) → givenWord x < 65536 → givenWord y < 65536 → givenWord (cond b x y) < 65536
 row = either (λ g. givenWord g < 65536)
 
 -- every word of a sound state is below 65,536

@@ -13,9 +13,10 @@ use lib.Signed.{leZ, quotZ}
 use mir.Facts.{toZ-ofZ}
 use mir.Syntax.{w16}
 use mir.Val.{SFits, toZ, ofZ}
-use Rattle.capacity.proofs.Bounds.{either, percent-most}
+use Rattle.capacity.proofs.Bounds.{percent-most}
 use Rattle.commands.specs.Commands.{from}
 use Rattle.gauge_laws.proofs.Bits.{digit-most, weighed}
+use Rattle.gauge_laws.proofs.Range.{row}
 use Rattle.gauge_laws.specs.Promises.{digit}
 use Rattle.minutes.proofs.Laws.{time-word-below}
 use Rattle.minutes.specs.Minutes.{givenWord}
@@ -117,10 +118,6 @@ cell-below : (cells : List ℕ) (i : ℕ) → Below 65536 cells → getD cells i
 cell-below [] i h = omega arith
 cell-below (c ∷ cs) zero h = h .0
 cell-below (c ∷ cs) (suc i) h = cell-below cs i (h .1)
-
--- of two that a register gives, one with a word below 65,536
-row : (b : Bool) (x y : Given) → givenWord x < 65536 → givenWord y < 65536 → givenWord (cond b x y) < 65536
-row = either (λ g. givenWord g < 65536)
 
 pub word-below : WordBelow
 unfolding givenOf
