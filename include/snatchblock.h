@@ -24,9 +24,9 @@
  * the area, that the loop makes; the bus hardware holds the clock meanwhile. Calls on other areas may run beside it.
  *
  * Stack, in bytes, the most that was measured of each (`make bench`, x86-64; nothing proves it): transact 4,352;
- * sample 2,336; read_key 1,752; unescape 1,656; sound 784; charger_transact 392; exchange_check 312; pec 280;
- * set_body 176; write_sheet 128; set_up 128; remove_body 112; block 104; shelf_report 80; write_key 56;
- * charger_sample 56; all others 16.
+ * sample 2,400; thirteen_sample 2,080; read_key 1,752; unescape 1,656; thirteen_transact 968; sound 784;
+ * charger_transact 392; thirteen_sound 336; exchange_check 312; pec 280; set_body 176; write_sheet 128; set_up 128;
+ * thirteen_set_up 120; remove_body 112; block 104; shelf_report 80; write_key 56; charger_sample 56; all others 16.
  */
 #ifndef SNATCHBLOCK_H
 #define SNATCHBLOCK_H
