@@ -6,7 +6,7 @@ use Rattle.frame.specs.Transactions.{replyOf}
 use Rattle.pec.specs.Pec.{bitStep, byteStep, pecFrom, pecOf}
 use Rattle.recent.specs.Recent.{averageOf}
 use Rattle.thirteen_pack.specs.SetUp.{packOf}
-use Rattle.thirteen_words.specs.Status.{statusOf}
+use Rattle.thirteen_status.specs.Status.{statusOf}
 use Rattle.thirteen_words.specs.Word.{givenOf}
 
 pub visit-by-hand : VisitByHand

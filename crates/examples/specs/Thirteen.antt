@@ -12,7 +12,7 @@ use Rattle.pack.specs.declared.Latest.{Latest}
 use Rattle.thirteen_pack.specs.SetUp.{packOf}
 use Rattle.thirteen_pack.specs.declared.Thirteen.{Thirteen}
 use Rattle.thirteen_words.specs.Cells.{cellBytes}
-use Rattle.thirteen_words.specs.Status.{overTemperature, underTemperature, dischargeOverCurrent, chargeOverCurrent, overVoltage, underVoltage, fullyCharged}
+use Rattle.thirteen_status.specs.Status.{overTemperature, underTemperature, dischargeOverCurrent, chargeOverCurrent, overVoltage, underVoltage, fullyCharged}
 use Rattle.thirteen_words.specs.Word.{currentWord, wordOf}
 
 -- 9,700 mAh when full, half of that remaining; 48,191 mV, −1,234 mA, 298.2 K; cells of 3,701 to 3,713 mV

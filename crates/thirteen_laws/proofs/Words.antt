@@ -26,8 +26,8 @@ use Rattle.recent.specs.Fits.{Below}
 use Rattle.thirteen_laws.specs.Promises.{WordBelow, RelativeMost, VoltageMost, CurrentBetween, EachBit}
 use Rattle.thirteen_pack.proofs.Facts.{facts-of-sound}
 use Rattle.thirteen_pack.specs.declared.Thirteen.{Thirteen}
-use Rattle.thirteen_words.proofs.Bits.{nine}
-use Rattle.thirteen_words.specs.Status.{overTemperature, underTemperature, dischargeOverCurrent, chargeOverCurrent, overVoltage, underVoltage, fullyCharged, statusOf}
+use Rattle.thirteen_status.proofs.Bits.{nine}
+use Rattle.thirteen_status.specs.Status.{overTemperature, underTemperature, dischargeOverCurrent, chargeOverCurrent, overVoltage, underVoltage, fullyCharged, statusOf}
 use Rattle.thirteen_words.specs.Word.{remaining, averageCurrent, givenOf}
 use Rattle.words.proofs.Integers.{split, low, high}
 use Rattle.words.specs.Words.{above, below, sizeOf}

@@ -30,7 +30,7 @@ use Rattle.thirteen_pack.specs.SetUp.{setUpOf, zeroState}
 use Rattle.thirteen_pack.specs.Sound.{soundOf}
 use Rattle.thirteen_pack.specs.declared.Thirteen.{Thirteen}
 use Rattle.thirteen_pack.specs.declared.ThirteenState.{ThirteenState}
-use Rattle.thirteen_words.specs.Status.{overTemperature, underTemperature, dischargeOverCurrent, chargeOverCurrent, overVoltage, underVoltage, fullyCharged}
+use Rattle.thirteen_status.specs.Status.{overTemperature, underTemperature, dischargeOverCurrent, chargeOverCurrent, overVoltage, underVoltage, fullyCharged}
 use Rattle.thirteen_words.specs.Word.{currentWord, wordOf, wordAnswer}
 use Rattle.words.specs.Words.{below}
 

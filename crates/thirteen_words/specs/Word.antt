@@ -16,7 +16,7 @@ use Rattle.minutes.specs.declared.Given.the-variants.{Word, Until}
 use Rattle.minutes.specs.declared.Time.{Time}
 use Rattle.recent.specs.Recent.{averageOf}
 use Rattle.thirteen_pack.specs.declared.Thirteen.{Thirteen}
-use Rattle.thirteen_words.specs.Status.{statusOf}
+use Rattle.thirteen_status.specs.Status.{statusOf}
 use Rattle.thirteen_words.specs.declared.ThirteenShown.{ThirteenShown}
 use Rattle.words.specs.Words.{above, below, sizeOf}
 

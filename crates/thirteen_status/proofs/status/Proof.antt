@@ -1,12 +1,12 @@
--- `thirteen_words::status` meets its contract: bit by bit.
+-- `thirteen_status::status` meets its contract: bit by bit.
 -- Assumes nothing.
 use mathlib.Core.Bool.{Bool, cond}
 use mathlib.Core.Path.{ap, _∙_}
 use borrow.Author.Needs.{needs}
-use Rattle.thirteen_words.proofs.Bits.{nine}
-use Rattle.thirteen_words.specs.Status.{statusOf}
-use Rattle.thirteen_words.proofs.status.Statement.{statement}
-use Rattle.thirteen_words.proofs.status.Tie as tie
+use Rattle.thirteen_status.proofs.Bits.{nine}
+use Rattle.thirteen_status.specs.Status.{statusOf}
+use Rattle.thirteen_status.proofs.status.Statement.{statement}
+use Rattle.thirteen_status.proofs.status.Tie as tie
 
 returns : tie.Need-returns
 unfolding statusOf
