@@ -28,19 +28,20 @@ unsound-stays s c e =
     ap (λ (r : Transacted). r .state)
     (refused-outcome s (c .service) (c .factory) (c .read) (c .bytes) (c .room) 1 (unsound s (c .service) (c .factory) (c .read) (c .bytes) (c .room) e) refl)
 
+-- of two sound states with one pack no register differs but the error bits
+pub one-pack : (s t : State) → soundOf s ≡ true → soundOf t ≡ true → t .pack ≡ s .pack → SameRegisters s t
+one-pack s t h k e =
+    let first : s .error < 16 = omega (arith, code-of-sound s h) in
+    let second : t .error < 16 = omega (arith, code-of-sound t k) in
+    record { words = λ command n. other-words t s command e n; status = status-above-code t s e second first }
+
 -- with the pack as it was, no register differs but the error bits
 same-registers : (s : State) (c : Call) → result s c .state .pack ≡ s .pack → SameRegisters s (result s c .state)
 same-registers s c e = go (soundOf s) refl
   where
     go : (b : Bool) → soundOf s ≡ b → SameRegisters s (result s c .state)
     go false u = subst (λ (t : State). SameRegisters s t) (sym (unsound-stays s c u)) (record { words = λ command n. refl; status = refl })
-    go true h =
-        let before : s .error < 16 = omega (arith, code-of-sound s h) in
-        let left : result s c .state .error < 16 = omega (arith, code-of-sound (result s c .state) (sound-stays s c h)) in
-        record {
-          words = λ command n. other-words (result s c .state) s command e n;
-          status = status-above-code (result s c .state) s e left before;
-        }
+    go true h = one-pack s (result s c .state) h (sound-stays s c h) e
 
 -- after a read or a refused call every word reads as before, but for the low four bits of 16
 pub idle-registers : IdleRegisters

@@ -5,3 +5,4 @@ pub mod Silence
 pub mod Alarms
 pub mod Status
 pub mod Last
+pub mod Chatter

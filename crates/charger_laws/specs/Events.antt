@@ -1,7 +1,7 @@
 -- What happens to a charger: samples and calls of any kind, in any order.
 -- Assumes nothing.
 use Prim.Native.Nat.{ℕ, _+_, _<_}
-use mathlib.Core.Bool.{Bool, true, false, cond, _&&_, _||_}
+use mathlib.Core.Bool.{Bool, true, false, cond, not, _&&_, _||_}
 use mathlib.Core.List.{List, [], _∷_, _++_}
 use mathlib.Core.Path.{_≡_}
 use lib.Dec.{eqb}
@@ -9,6 +9,8 @@ use Rattle.charger.specs.Charger.{sampleOf, wordOf}
 use Rattle.charger.specs.Transact.{chargerSide, asked, transactAnswer, transactReply, transactOf}
 use Rattle.charger.specs.declared.Charger.{Charger}
 use Rattle.charger.specs.declared.Transacted.{Transacted}
+use Rattle.chatter.specs.Histories.{runOf, over}
+use Rattle.chatter.specs.Struck.{Party}
 use Rattle.clock.specs.Sample.{elapsedOf}
 use Rattle.commands.specs.Answers.{served}
 use Rattle.commands_laws.specs.Visits.{Visit}
@@ -72,8 +74,7 @@ step s (call c) = result s c .state
 
 -- the state after events, the oldest first
 abbrev pub run : Charger → List Event → Charger
-run s [] = s
-run s (e ∷ es) = run (step s e) es
+run s es = runOf step s es
 
 -- what elapses by an event: time runs over accepted samples
 abbrev pub passes : Charger → Event → ℕ
@@ -81,9 +82,11 @@ passes s (sample x) = cond (eqb (sampleOf s x .answer) 0) (elapsedOf (x .counter
 passes s (call c) = 0
 
 -- how long events take
+abbrev pub addsTime : Charger → Event → ℕ → ℕ
+addsTime s e later = passes s e + later
+
 abbrev pub timeOf : Charger → List Event → ℕ
-timeOf s [] = 0
-timeOf s (e ∷ es) = passes s e + timeOf (step s e) es
+timeOf s es = over step addsTime 0 s es
 
 -- a request that writes this command
 abbrev pub writes : ℕ → Request → Bool
@@ -116,3 +119,30 @@ NoReset s (e ∷ es) = (resets s e ≡ false) × NoReset (step s e) es
 abbrev pub NoneTaken : ℕ → Charger → List Event → Type 0
 NoneTaken k s [] = Unit {0}
 NoneTaken k s (e ∷ es) = (takes k s e ≡ false) × NoneTaken k (step s e) es
+
+-- ---- what an event gives, and chatter (R-11)
+
+-- its answer
+abbrev pub answerTo : Charger → Event → ℕ
+answerTo s (sample x) = sampleOf s x .answer
+answerTo s (call c) = answer s c
+
+-- its reply; a sample has none
+abbrev pub replyTo : Charger → Event → List ℕ
+replyTo s (sample x) = []
+replyTo s (call c) = reply s c
+
+-- an idle event: a refused sample, a read or a refused call
+abbrev pub isIdle : Charger → Event → Bool
+isIdle s (sample x) = not (eqb (sampleOf s x .answer) 0)
+isIdle s (call c) = c .read || not (served (answer s c))
+
+-- the charger as what takes events: it has no error code, so that states are the same if they are equal
+abbrev pub chargerParty : Party Charger Event
+chargerParty =
+    record {
+      step = step;
+      idle = isIdle;
+      Same = λ s t. s ≡ t;
+      Gives = λ s t e. (answerTo s e ≡ answerTo t e) × (replyTo s e ≡ replyTo t e);
+    }

@@ -12,7 +12,8 @@ use Rattle.charger.specs.Charger.{setUpOf, soundOf, alarmInhibited, currentOf, 
 use Rattle.charger.specs.Transact.{outcome, transactAnswer, transactOf, replyRoom}
 use Rattle.charger.specs.Written.{endsCharge}
 use Rattle.charger.specs.declared.Charger.{Charger}
-use Rattle.charger_laws.specs.Events.{Call, result, answer, reply, exchange, Reads, Writes, Exchanged, Event, sample, call, step, run, timeOf, NoReset, NoneTaken}
+use Rattle.charger_laws.specs.Events.{Call, result, answer, reply, exchange, Reads, Writes, Exchanged, Event, sample, call, step, run, timeOf, NoReset, NoneTaken, chargerParty}
+use Rattle.chatter.specs.Struck.{Struck, Unmoved}
 use Rattle.commands.specs.Answers.{served}
 use Rattle.frame.specs.Transactions.{readBytes}
 use Rattle.frame_laws.specs.Exchanges.{Accepts, FarApart}
@@ -83,6 +84,11 @@ ReadKeeps = (s : Charger) (c : Call) → c .read ≡ true → result s c .state 
 -- so a read or a refused call changes nothing
 abbrev pub IdleKeeps : Type 0
 IdleKeeps = (s : Charger) (c : Call) → (c .read ≡ true) ⊎ (served (answer s c) ≡ false) → result s c .state ≡ s
+
+-- so do reads, refused calls and refused samples: struck out of any events, any choice of them, they leave the state and the time, and every event that stays gives the same (R-11)
+abbrev pub ChatterIsIdle : Type 0
+ChatterIsIdle =
+    (s : Charger) (es fs : List Event) (r : Struck chargerParty s es fs) → Unmoved chargerParty s s es fs r × (timeOf s es ≡ timeOf s fs)
 
 -- ---- exchanges, as demand 3 says
 

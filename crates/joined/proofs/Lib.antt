@@ -4,3 +4,4 @@ pub mod Stops
 pub mod Returns
 pub mod Computed
 pub mod Hot
+pub mod Chatter

@@ -9,6 +9,7 @@ use Rattle.bus_laws.specs.Calls.{Call}
 use Rattle.charger.specs.Delivered.{messageAt}
 use Rattle.charger.specs.declared.Charger.{Charger}
 use Rattle.charger_laws.specs.Events as charger
+use Rattle.chatter.specs.Histories.{runOf}
 use Rattle.clock.specs.Broadcast.{sampleOf}
 use Rattle.clock.specs.Sample.{elapsedOf}
 use Rattle.commands.specs.Answers.{served}
@@ -82,8 +83,7 @@ abbrev pub happen : Joint → Happening → Joint
 happen j h = record { pack = run (j .pack) (packEvents h); charger = charger.run (j .charger) (chargerEvents (j .pack) h) }
 
 abbrev pub afterAll : Joint → List Happening → Joint
-afterAll j [] = j
-afterAll j (h ∷ hs) = afterAll (happen j h) hs
+afterAll j hs = runOf happen j hs
 
 -- ---- the premise
 

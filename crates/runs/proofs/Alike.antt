@@ -1,16 +1,17 @@
--- Two sound states that are the same but for the error code give the same, and stay the same but for it.
+-- One event: two sound states that are the same but for the error code give the same, and stay the same but for it; an idle event leaves the pack.
 -- Assumes nothing.
 use Prim.Native.Nat.{ℕ, _<_}
-use mathlib.Core.Bool.{Bool, true, false, cond, not}
+use mathlib.Core.Bool.{Bool, true, false, cond, not, _||_}
 use mathlib.Core.List.{List, []}
 use mathlib.Core.Path.{_≡_, refl, sym, ap, ap₂, _∙_}
 use native.Mathlib.Omega.{arith}
 use lib.Dec.{eqb, ltb}
+use lib.ListN.{length}
 use Rattle.bus.proofs.Answers.{refused-no-reply}
 use Rattle.bus.specs.Transact.{packSide, packAfter, asked, transactAnswer, transactReply, transactOf}
 use Rattle.bus_laws.proofs.Exchanges.{served-reply}
 use Rattle.bus_laws.specs.Calls.{Call, result, answer, reply, Reads}
-use Rattle.broadcasts.specs.Broadcasts.{broadcastOf, leastRoom}
+use Rattle.broadcasts.specs.Broadcasts.{broadcastOf, messagesOf, leastRoom}
 use Rattle.clock.specs.Broadcast.{sampledOf, sampleOf, servedSample, refusedSample}
 use Rattle.clock.specs.Sample.{movedOf}
 use Rattle.commands.specs.Answers.{readAnswer, requestAnswer, sideAnswer, served, readBody, sideReply}
@@ -27,9 +28,9 @@ use Rattle.pack.proofs.Soundness.{code-of-sound}
 use Rattle.pack.specs.declared.Pack.{Pack}
 use Rattle.pack.specs.declared.Sample.{Sample}
 use Rattle.pack.specs.declared.State.{State}
-use Rattle.runs.proofs.Histories.{step-sound}
-use Rattle.runs.specs.Events.{Event, sample, call, step, sent}
-use Rattle.runs.specs.Promises.{StepSame}
+use Rattle.runs.proofs.Histories.{step-sound, idle-keeps}
+use Rattle.runs.specs.Events.{Event, sample, call, step, isIdle, IdleEvent, sent}
+use Rattle.runs.specs.Promises.{PackStep}
 use Rattle.runs.specs.Struck.{SameBut, SameReply, Same}
 
 module _ (s t : State) (h : SameBut s t) where
@@ -38,11 +39,19 @@ module _ (s t : State) (h : SameBut s t) where
   by-room : (x : Sample) (b : Bool)
       → let r = cond b (refusedSample 2 s) (servedSample s x) in
       let q = cond b (refusedSample 2 t) (servedSample t x) in
-      (r .answer ≡ q .answer) × (r .state .pack ≡ q .state .pack)
-  by-room x true = (refl, h .pack)
-  by-room x false = (refl, ap (λ (p : Pack). sampledOf p x) (h .pack))
+      (r .answer ≡ q .answer) × (r .state .pack ≡ q .state .pack) × (r .length ≡ q .length) × (r .messages ≡ q .messages)
+  by-room x true = (refl, h .pack, refl, refl)
+  by-room x false = (
+    refl,
+    ap (λ (p : Pack). sampledOf p x) (h .pack),
+    ap (λ (p : Pack). length (broadcastOf (movedOf p x))) (h .pack),
+    ap (λ (p : Pack). length (messagesOf (movedOf p x))) (h .pack),
+  )
 
-  same-sample : (x : Sample) (n : ℕ) → (sampleOf s x n .answer ≡ sampleOf t x n .answer) × (sampleOf s x n .state .pack ≡ sampleOf t x n .state .pack)
+  same-sample : (x : Sample) (n : ℕ)
+      → let r = sampleOf s x n in
+      let q = sampleOf t x n in
+      (r .answer ≡ q .answer) × (r .state .pack ≡ q .state .pack) × (r .length ≡ q .length) × (r .messages ≡ q .messages)
   unfolding sampleOf
   same-sample x n =
       simp (h .sound-first, h .sound-second, ap (λ (p : Pack). leastRoom (p .settings .plain)) (h .pack)) (by-room x (ltb n (leastRoom (t .pack .settings .plain))))
@@ -96,6 +105,35 @@ module _ (s t : State) (h : SameBut s t) where
           ap₂ (λ (m : ℕ) (body : List ℕ). cond (served m) (replyOf (c .bytes) body) []) (call-answer c)
           (same-body c command (λ i. no-status (read-is 0x16 (c .read) (c .bytes) 0x16 .0 (e ∙ ap Read i))) (kindOf command))
 
+  -- a word is as long as any other
+  body-length : (c : Call) (command : ℕ) (k : Kind)
+      → length (replyOf (c .bytes) (readBody (packSide s (c .service) (c .factory)) command k))
+      ≡ length (replyOf (c .bytes) (readBody (packSide t (c .service) (c .factory)) command k))
+  unfolding replyOf
+  body-length c command Block = refl
+  body-length c command ReadOnly = refl
+  body-length c command ReadWrite = refl
+  body-length c command WriteOnly = refl
+  body-length c command Optional = refl
+  body-length c command Reserved = refl
+
+  call-length : (c : Call) → result s c .length ≡ result t c .length
+  unfolding transactOf
+  call-length c = go (asked (c .read) (c .bytes))
+    where
+      served-length : (v : Bool) (xs ys : List ℕ) → length xs ≡ length ys → length (cond v xs []) ≡ length (cond v ys [])
+      served-length true xs ys e = e
+      served-length false xs ys e = refl
+
+      go : (q : Request)
+          → length (sideReply (packSide s (c .service) (c .factory)) (c .bytes) q (answer s c))
+          ≡ length (sideReply (packSide t (c .service) (c .factory)) (c .bytes) q (answer t c))
+      go (Refused m) = refl
+      go (Write command word checked) = refl
+      go (Read command) =
+          served-length (served (answer s c)) _ _ (body-length c command (kindOf command))
+          ∙ ap (λ (n : ℕ). length (cond (served n) (replyOf (c .bytes) (readBody (packSide t (c .service) (c .factory)) command (kindOf command))) [])) (call-answer c)
+
   call-reply : (c : Call) → SameReply s t c
   unfolding kindOf
   call-reply c =
@@ -116,8 +154,13 @@ module _ (s t : State) (h : SameBut s t) where
   -- ---- either
 
   same : (e : Event) → Same s t e
-  same (sample x n) = record { answer = same-sample x n .0; broadcast = sample-sent x n; reply = tt }
-  same (call c) = record { answer = call-answer c; broadcast = refl; reply = call-reply c }
+  same (sample x n) =
+      let r = same-sample x n in record { answer = r .0; length = r .2; messages = r .3; broadcast = sample-sent x n; reply = tt }
+  same (call c) = record { answer = call-answer c; length = call-length c; messages = refl; broadcast = refl; reply = call-reply c }
+
+  same-idle : (e : Event) → isIdle s e ≡ isIdle t e
+  same-idle (sample x n) = ap (λ (a : ℕ). not (eqb a 0)) (same-sample x n .0)
+  same-idle (call c) = ap (λ (a : ℕ). c .read || not (served a)) (call-answer c)
 
   same-pack : (e : Event) → step s e .pack ≡ step t e .pack
   same-pack (sample x n) = same-sample x n .1
@@ -126,5 +169,15 @@ module _ (s t : State) (h : SameBut s t) where
   same-step : (e : Event) → SameBut (step s e) (step t e)
   same-step e = record { pack = same-pack e; sound-first = step-sound s e (h .sound-first); sound-second = step-sound t e (h .sound-second) }
 
-pub step-same : StepSame
-step-same s t e h = (same s t h e, same-step s t h e)
+idle-same : (s t : State) (e : Event) → SameBut s t → IdleEvent s e → SameBut (step s e) t
+idle-same s t e h i =
+    record { pack = idle-keeps s e i ∙ h .pack; sound-first = step-sound s e (h .sound-first); sound-second = h .sound-second }
+
+pub pack-step : PackStep
+pack-step =
+    record {
+      keeps = idle-same;
+      gives = λ s t e h. same s t h e;
+      idle = λ s t e h. same-idle s t h e;
+      leaves = λ s t e h. same-step s t h e;
+    }

@@ -1,67 +1,78 @@
 -- Reads and refused calls can be struck out of a history; what is written is read back after any number of them.
 -- Assumes nothing.
 use Prim.Native.Nat.{ℕ, _+_}
-use mathlib.Core.Bool.{Bool, true, false, cond, not, _&&_, _||_, and-eq-true-iff}
+use mathlib.Core.Bool.{Bool, true, cond}
 use mathlib.Core.List.{List, [], _∷_, _++_}
-use mathlib.Core.Logic.{inl, inr}
-use mathlib.Core.Path.{_≡_, refl, ap, ap₂, _∙_}
+use mathlib.Core.Path.{_≡_, refl, ap, ap₂}
 use native.Mathlib.Omega.{arith}
-use borrow.Author.Tests.{not-true}
 use lib.Dec.{eqb}
 use Rattle.bus_laws.proofs.ReadBack.{written-read}
 use Rattle.bus_laws.proofs.Served.{past-two}
-use Rattle.bus_laws.specs.Calls.{answer}
-use Rattle.commands.specs.Answers.{served}
+use Rattle.chatter.proofs.Chatter.{over-is-same}
+use Rattle.chatter.proofs.Chatter as chatter
+use Rattle.chatter.specs.Promises.{AddsSame}
 use Rattle.clock.specs.Sample.{elapsedOf}
 use Rattle.pack.specs.Sound.{soundOf}
 use Rattle.pack.specs.declared.Pack.{Pack}
 use Rattle.pack.specs.declared.Sample.{Sample}
 use Rattle.pack.specs.declared.State.{State}
-use Rattle.runs.proofs.Alike.{step-same}
-use Rattle.runs.proofs.Histories.{step-sound, run-sound, idle-keeps, idle-keep, idle-none}
+use Rattle.runs.proofs.Alike.{pack-step}
+use Rattle.runs.proofs.Histories.{step-sound, run-sound, idle-keep, idle-none}
 use Rattle.runs.proofs.Measures.{set-up-sound}
-use Rattle.runs.specs.Events.{Event, sample, call, step, run, sent, accepted, taken, acceptedOf, broadcasts, passes, IdleEvent}
-use Rattle.runs.specs.Promises.{ChatterIsIdle, ChatterIsIdleFrom, NextIsSame, AnyChoice, ReadBack}
+use Rattle.runs.specs.Events.{Event, sample, call, step, run, sent, accepted, taken, passes, addsSent, addsTaken, addsTime, addsElapsed}
+use Rattle.runs.specs.Promises.{ChatterIsIdle, ChatterIsIdleFrom, NextIsSame, ReadBack}
 use Rattle.runs.specs.Since.{fromSetUp}
-use Rattle.runs.specs.Struck.{isIdle, Struck, strike, none, stays, strikes, SameBut, Same}
+use Rattle.runs.specs.Struck.{SameBut, Same, packParty}
 
--- an event that stays is accepted, adds to the samples and takes time in both
-alike : (s t : State) (e : Event) → SameBut s t → Same s t e → (accepted s e ≡ accepted t e) × (taken s e ≡ taken t e) × (passes s e ≡ passes t e)
-alike s t (sample x n) h q = (
-  ap (λ (a : ℕ). eqb a 0) (q .answer),
-  ap (λ (a : ℕ). cond (eqb a 0) (x ∷ []) []) (q .answer),
-  ap₂ (λ (a : ℕ) (p : Pack). cond (eqb a 0) (elapsedOf (x .counter) (p .latest .counter)) 0) (q .answer) (h .pack),
-)
-alike s t (call c) h q = (refl, refl, refl)
+-- in states that are the same but for the error code an event is accepted, adds to the samples and takes time in both
+alike : (s t : State) (e : Event) → SameBut s t → (accepted s e ≡ accepted t e) × (taken s e ≡ taken t e) × (passes s e ≡ passes t e)
+alike s t (sample x n) h =
+    let a = pack-step .gives s t (sample x n) h .answer in (
+      ap (λ (a : ℕ). eqb a 0) a,
+      ap (λ (a : ℕ). cond (eqb a 0) (x ∷ []) []) a,
+      ap₂ (λ (a : ℕ) (p : Pack). cond (eqb a 0) (elapsedOf (x .counter) (p .latest .counter)) 0) a (h .pack),
+    )
+alike s t (call c) h = (refl, refl, refl)
 
--- ---- the induction
+-- ---- what comes of a history
+
+sent-same : AddsSame packParty addsSent
+sent-same =
+    record {
+      nothing = λ s e later i. ap (λ (b : Bool). cond b (sent s e ∷ []) [] ++ later) (idle-none s e i .0);
+      same = λ s t e later h.
+          ap₂ (λ (b : Bool) (bytes : List ℕ). cond b (bytes ∷ []) [] ++ later) (alike s t e h .0) (pack-step .gives s t e h .broadcast);
+    }
+
+taken-same : AddsSame packParty addsTaken
+taken-same =
+    record {
+      nothing = λ s e later i. ap (λ (xs : List Sample). xs ++ later) (idle-none s e i .1);
+      same = λ s t e later h. ap (λ (xs : List Sample). xs ++ later) (alike s t e h .1);
+    }
+
+elapsed-same : AddsSame packParty addsElapsed
+elapsed-same =
+    record {
+      nothing = λ s e later i. ap (λ (b : Bool). cond b (passes s e ∷ []) [] ++ later) (idle-none s e i .0);
+      same = λ s t e later h. ap₂ (λ (b : Bool) (time : ℕ). cond b (time ∷ []) [] ++ later) (alike s t e h .0) (alike s t e h .2);
+    }
+
+time-same : AddsSame packParty addsTime
+time-same =
+    record {
+      nothing = λ s e later i. omega (arith, idle-none s e i .2);
+      same = λ s t e later h. ap (λ (time : ℕ). time + later) (alike s t e h .2);
+    }
 
 pub chatter-is-idle-from : ChatterIsIdleFrom
-chatter-is-idle-from s t es fs none h = record { state = h; broadcast = refl; samples = refl; time = refl; each = tt }
-chatter-is-idle-from s t es fs (stays {e = e} {es = later} {fs = left} r) h =
-    let q = step-same s t e h in
-    let both = alike s t e h (q .0) in
-    let rest = chatter-is-idle-from (step s e) (step t e) later left r (q .1) in
+chatter-is-idle-from s t es fs r h =
     record {
-      state = rest .state;
-      broadcast =
-          ap₂ (λ (a : List (List ℕ)) (b : List (List ℕ)). a ++ b)
-          (ap₂ (λ (b : Bool) (bytes : List ℕ). cond b (bytes ∷ []) []) (both .0) (q .0 .broadcast)) (rest .broadcast);
-      samples = ap₂ (λ (a b : List Sample). a ++ b) (both .1) (rest .samples);
-      time = ap₂ _+_ (both .2) (rest .time);
-      each = (q .0, rest .each);
-    }
-chatter-is-idle-from s t es fs (strikes {e = e} {es = later} i r) h =
-    let k : SameBut (step s e) t =
-    record { pack = idle-keeps s e i ∙ h .pack; sound-first = step-sound s e (h .sound-first); sound-second = h .sound-second } in
-    let nothing = idle-none s e i in
-    let rest = chatter-is-idle-from (step s e) t later fs r k in
-    record {
-      state = rest .state;
-      broadcast = ap (λ (b : Bool). cond b (sent s e ∷ []) [] ++ broadcasts (step s e) later) (nothing .0) ∙ rest .broadcast;
-      samples = ap (λ (xs : List Sample). xs ++ acceptedOf (step s e) later) (nothing .1) ∙ rest .samples;
-      time = omega (arith, nothing .2, rest .time);
-      each = rest .each;
+      unmoved = chatter.chatter-is-idle packParty pack-step s t es fs r h;
+      broadcast = over-is-same packParty addsSent [] pack-step sent-same s t es fs r h;
+      samples = over-is-same packParty addsTaken [] pack-step taken-same s t es fs r h;
+      elapsed = over-is-same packParty addsElapsed [] pack-step elapsed-same s t es fs r h;
+      time = over-is-same packParty addsTime 0 pack-step time-same s t es fs r h;
     }
 
 -- from one sound state
@@ -74,32 +85,7 @@ chatter-is-idle u first es fs a r =
     chatter-is-idle-from s s es fs r (same-state s (set-up-sound u first a))
 
 pub next-is-same : NextIsSame
-next-is-same s es fs h r e = step-same (run s es) (run s fs) e (chatter-is-idle-from s s es fs r (same-state s h) .state) .0
-
--- ---- every choice
-
-is-idle : (s : State) (e : Event) → isIdle s e ≡ true → IdleEvent s e
-is-idle s (sample x n) i = not-true (accepted s (sample x n)) i
-is-idle s (call c) i = go (c .read) refl i
-  where
-    go : (b : Bool) → c .read ≡ b → b || not (served (answer s c)) ≡ true → IdleEvent s (call c)
-    go true r h = inl r
-    go false r h = inr (not-true (served (answer s c)) h)
-
-all-stay : (s : State) (es : List Event) → Struck s es es
-all-stay s [] = none
-all-stay s (e ∷ es) = stays (all-stay (step s e) es)
-
-one-choice : (s : State) (e : Event) (es fs : List Event) (v : Bool) → (v ≡ true → IdleEvent s e) → Struck (step s e) es fs
-    → Struck s (e ∷ es) (cond v [] (e ∷ []) ++ fs)
-one-choice s e es fs true i r = strikes (i refl) r
-one-choice s e es fs false i r = stays r
-
-pub any-choice : AnyChoice
-any-choice [] s es = all-stay s es
-any-choice (b ∷ bs) s [] = none
-any-choice (b ∷ bs) s (e ∷ es) =
-    one-choice s e es (strike bs (step s e) es) (b && isIdle s e) (λ h. is-idle s e (and-eq-true-iff b (isIdle s e) .0 h .1)) (any-choice bs (step s e) es)
+next-is-same s es fs h r e = pack-step .gives (run s es) (run s fs) e (chatter-is-idle-from s s es fs r (same-state s h) .unmoved .state)
 
 -- ---- what is written is read back
 

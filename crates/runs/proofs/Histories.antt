@@ -1,15 +1,17 @@
 -- A history event by event, and what is carried from its first state to its last.
 -- Assumes nothing.
 use Prim.Native.Nat.{ℕ, _+_}
-use mathlib.Core.Bool.{Bool, true, false, cond, true≢false}
+use mathlib.Core.Bool.{Bool, true, false, cond, not, true≢false}
 use mathlib.Core.List.{List, [], _∷_}
 use mathlib.Core.Logic.{inl, inr}
 use mathlib.Core.Path.{_≡_, refl, sym, ap, _∙_, subst⁻¹}
+use borrow.Author.Tests.{not-true}
 use lib.Dec.{eqb}
 use Rattle.bus.specs.Transact.{packAfter, asked, transactOf}
 use Rattle.bus_laws.proofs.Served as calls
 use Rattle.bus_laws.proofs.Soundness.{sound-stays}
 use Rattle.bus_laws.specs.Calls.{Call, result, answer, Writes}
+use Rattle.chatter.proofs.Idle.{either}
 use Rattle.clock.proofs.Outcome.{outcome}
 use Rattle.clock.specs.Broadcast.{sampledOf}
 use Rattle.clock.specs.Sample.{elapsedOf}
@@ -45,18 +47,25 @@ timers-of s h = timers-facts (s .pack .host) (s .pack .timers) (parts (s .pack) 
 
 -- ---- an idle event
 
+refused-sample : (s : State) (x : Sample) (n : ℕ) → IdleEvent s (sample x n) → accepted s (sample x n) ≡ false
+refused-sample s x n i = not-true (accepted s (sample x n)) i
+
 pub idle-keeps : (s : State) (e : Event) → IdleEvent s e → step s e .pack ≡ s .pack
 idle-keeps s (sample x n) i =
-    outcome (λ r. eqb (r .answer) 0 ≡ false → r .state .pack ≡ s .pack) s x n (λ z. refl) (λ z. refl) (λ h z. absurd (true≢false z)) i
-idle-keeps s (call c) i = calls.idle-keeps s c i
+    outcome (λ r. eqb (r .answer) 0 ≡ false → r .state .pack ≡ s .pack) s x n (λ z. refl) (λ z. refl) (λ h z. absurd (true≢false z)) (refused-sample s x n i)
+idle-keeps s (call c) i = calls.idle-keeps s c (either (c .read) (served (answer s c)) i)
 
 pub idle-keep : IdleKeep
 idle-keep s [] i = refl
 idle-keep s (e ∷ es) (i, is) = idle-keep (step s e) es is ∙ idle-keeps s e i
 
+none-of : (s : State) (x : Sample) (n : ℕ) → accepted s (sample x n) ≡ false
+    → (accepted s (sample x n) ≡ false) × (taken s (sample x n) ≡ []) × (passes s (sample x n) ≡ 0)
+none-of s x n a = (a, ap (λ (b : Bool). cond b (x ∷ []) []) a, ap (λ (b : Bool). cond b (elapsedOf (x .counter) (s .pack .latest .counter)) 0) a)
+
 -- it isn't accepted, adds no sample and takes no time
 pub idle-none : (s : State) (e : Event) → IdleEvent s e → (accepted s e ≡ false) × (taken s e ≡ []) × (passes s e ≡ 0)
-idle-none s (sample x n) i = (i, ap (λ (b : Bool). cond b (x ∷ []) []) i, ap (λ (b : Bool). cond b (elapsedOf (x .counter) (s .pack .latest .counter)) 0) i)
+idle-none s (sample x n) i = none-of s x n (refused-sample s x n i)
 idle-none s (call c) i = (refl, refl, refl)
 
 -- ---- a history, event by event
@@ -90,7 +99,7 @@ took s x n a =
 
 -- any event that isn't an accepted sample
 pub still-of : (s : State) (e : Event) → accepted s e ≡ false → Still s e
-still-of s (sample x n) a = let k = idle-none s (sample x n) a in record { none = k .1; time = k .2; pack = inl (idle-keeps s (sample x n) a) }
+still-of s (sample x n) a = let k = none-of s x n a in record { none = k .1; time = k .2; pack = inl (idle-keeps s (sample x n) (ap not a)) }
 still-of s (call c) a = record { none = refl; time = refl; pack = call-left s c }
 
 by-answer : (s : State) (x : Sample) (n : ℕ) (es : List Event) (b : Bool) → accepted s (sample x n) ≡ b → History (step s (sample x n)) es → History s (sample x n ∷ es)

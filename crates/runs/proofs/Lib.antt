@@ -13,4 +13,5 @@ pub mod Modes
 pub mod Sent
 pub mod Alike
 pub mod Chatter
+pub mod Polling
 pub mod Choice

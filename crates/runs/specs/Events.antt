@@ -1,12 +1,12 @@
 -- Histories: samples and transactions in any order, each with what it is lent.
 -- Assumes nothing.
 use Prim.Native.Nat.{ℕ, _+_}
-use mathlib.Core.Bool.{Bool, true, false, cond}
+use mathlib.Core.Bool.{Bool, true, false, cond, not, _||_}
 use mathlib.Core.List.{List, [], _∷_, _++_}
 use mathlib.Core.Path.{_≡_}
 use lib.Dec.{eqb}
-use Rattle.bus_laws.specs.Calls as calls
 use Rattle.bus_laws.specs.Calls.{Call, result, answer, Writes}
+use Rattle.chatter.specs.Histories.{runOf, over}
 use Rattle.commands.specs.Answers.{served}
 use Rattle.broadcasts.specs.Broadcasts.{broadcastOf}
 use Rattle.clock.specs.Broadcast.{sampleOf}
@@ -28,8 +28,7 @@ step s (call c) = result s c .state
 
 -- the state after a history, the oldest event first
 abbrev pub run : State → List Event → State
-run s [] = s
-run s (e ∷ es) = run (step s e) es
+run s es = runOf step s es
 
 -- what is said of an event in its state holds at every event of a history
 abbrev pub Throughout : (State → Event → Type 0) → State → List Event → Type 0
@@ -58,10 +57,13 @@ abbrev pub ServedWrite : State → Event → ℕ → ℕ → Type 0
 ServedWrite s (sample x n) command word = ⊥
 ServedWrite s (call c) command word = Writes c command word × (served (answer s c) ≡ true)
 
--- a read, a refused call or a refused sample
+-- an idle event: a refused sample, a read or a refused call
+abbrev pub isIdle : State → Event → Bool
+isIdle s (sample x n) = not (accepted s (sample x n))
+isIdle s (call c) = c .read || not (served (answer s c))
+
 abbrev pub IdleEvent : State → Event → Type 0
-IdleEvent s (sample x n) = accepted s (sample x n) ≡ false
-IdleEvent s (call c) = calls.Idle s c
+IdleEvent s e = isIdle s e ≡ true
 
 -- ---- accepted samples: what they send, and the time that runs over them
 
@@ -71,9 +73,11 @@ sent s (sample x n) = cond (accepted s (sample x n)) (broadcastOf (movedOf (s .p
 sent s (call c) = []
 
 -- the broadcasts of a history: the bytes of each accepted sample
+abbrev pub addsSent : State → Event → List (List ℕ) → List (List ℕ)
+addsSent s e later = cond (accepted s e) (sent s e ∷ []) [] ++ later
+
 abbrev pub broadcasts : State → List Event → List (List ℕ)
-broadcasts s [] = []
-broadcasts s (e ∷ es) = cond (accepted s e) (sent s e ∷ []) [] ++ broadcasts (step s e) es
+broadcasts s es = over step addsSent [] s es
 
 -- what an event adds to the accepted samples: itself, or nothing
 abbrev pub taken : State → Event → List Sample
@@ -81,9 +85,11 @@ taken s (sample x n) = cond (accepted s (sample x n)) (x ∷ []) []
 taken s (call c) = []
 
 -- the accepted samples of a history, the oldest first
+abbrev pub addsTaken : State → Event → List Sample → List Sample
+addsTaken s e later = taken s e ++ later
+
 abbrev pub acceptedOf : State → List Event → List Sample
-acceptedOf s [] = []
-acceptedOf s (e ∷ es) = taken s e ++ acceptedOf (step s e) es
+acceptedOf s es = over step addsTaken [] s es
 
 -- what elapses by an event: time runs over accepted samples
 abbrev pub passes : State → Event → ℕ
@@ -91,6 +97,15 @@ passes s (sample x n) = cond (accepted s (sample x n)) (elapsedOf (x .counter) (
 passes s (call c) = 0
 
 -- how long a history takes
+abbrev pub addsTime : State → Event → ℕ → ℕ
+addsTime s e later = passes s e + later
+
 abbrev pub timeOf : State → List Event → ℕ
-timeOf s [] = 0
-timeOf s (e ∷ es) = passes s e + timeOf (step s e) es
+timeOf s es = over step addsTime 0 s es
+
+-- elapsed, sample by sample: of each accepted one
+abbrev pub addsElapsed : State → Event → List ℕ → List ℕ
+addsElapsed s e later = cond (accepted s e) (passes s e ∷ []) [] ++ later
+
+abbrev pub elapsedEach : State → List Event → List ℕ
+elapsedEach s es = over step addsElapsed [] s es

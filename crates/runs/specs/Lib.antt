@@ -6,5 +6,6 @@ pub mod Struck
 pub mod Closes
 pub mod Rest
 pub mod Promises
+pub mod Polling
 pub mod Learned
 pub mod Choice

@@ -10,6 +10,8 @@ use mir.Syntax.{w16}
 use mir.Val.{toZ}
 use Rattle.bus_laws.specs.Calls.{Call, answer, reply, Reads, keptWord, Exchanged}
 use Rattle.broadcasts.specs.Broadcasts.{alarmGoes, chargerGoes}
+use Rattle.chatter.specs.Promises.{StepLaw}
+use Rattle.chatter.specs.Struck.{Struck}
 use Rattle.clock.specs.Broadcast.{sampleOf, broadcastRoom}
 use Rattle.clock.specs.Sample.{movedOf}
 use Rattle.commands.specs.Answers.{served}
@@ -34,7 +36,7 @@ use Rattle.runs.specs.Events.{Event, sample, step, run, Throughout, Even
 use Rattle.runs.specs.Closes.{closedBy, ClosesNone}
 use Rattle.runs.specs.Histories.{History}
 use Rattle.runs.specs.Since.{fromSetUp, measuresOf, measuresAfter, milliseconds, latestCurrent, Signed16, chargeOver, Counted}
-use Rattle.runs.specs.Struck.{Struck, strike, SameBut, Same, Unmoved}
+use Rattle.runs.specs.Struck.{SameBut, Same, packParty, Undisturbed}
 use Rattle.capacity.specs.Capacity.{milliampMs}
 
 -- ---- histories
@@ -226,24 +228,20 @@ ReadBack =
     → ServedWrite s w command word → Throughout IdleEvent (step s w) es → Reads r command → 34 ≤ r .room
     → reply (run s (w ∷ es)) r ≡ replyOf (r .bytes) (wordBody (keptWord command word))
 
--- states equal but for the error code give the same, and go to states equal but for the error code
-abbrev pub StepSame : Type 0
-StepSame = (s t : State) (e : Event) → SameBut s t → Same s t e × SameBut (step s e) (step t e)
+-- one event: an idle one leaves the pack as it was; in states that are the same but for the error code any one gives the same, and leaves states the same but for it
+abbrev pub PackStep : Type 0
+PackStep = StepLaw packParty
 
 -- any history since a served set-up, and the same with any of its idle events struck out
 abbrev pub ChatterIsIdle : Type 0
 ChatterIsIdle =
     (u : Setup) (first : Sample) (es fs : List Event) → setUpOf u first .answer ≡ 0
-    → (r : Struck (fromSetUp u first) es fs) → Unmoved (fromSetUp u first) (fromSetUp u first) es fs r
+    → (r : Struck packParty (fromSetUp u first) es fs) → Undisturbed (fromSetUp u first) (fromSetUp u first) es fs r
 
 -- from any two sound states that are the same but for the error code
 abbrev pub ChatterIsIdleFrom : Type 0
-ChatterIsIdleFrom = (s t : State) (es fs : List Event) (r : Struck s es fs) → SameBut s t → Unmoved s t es fs r
-
--- every choice is such a striking
-abbrev pub AnyChoice : Type 0
-AnyChoice = (bs : List Bool) (s : State) (es : List Event) → Struck s es (strike bs s es)
+ChatterIsIdleFrom = (s t : State) (es fs : List Event) (r : Struck packParty s es fs) → SameBut s t → Undisturbed s t es fs r
 
 -- so whatever comes next gives the same
 abbrev pub NextIsSame : Type 0
-NextIsSame = (s : State) (es fs : List Event) → soundOf s ≡ true → Struck s es fs → (e : Event) → Same (run s es) (run s fs) e
+NextIsSame = (s : State) (es fs : List Event) → soundOf s ≡ true → Struck packParty s es fs → (e : Event) → Same (run s es) (run s fs) e

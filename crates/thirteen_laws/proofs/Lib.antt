@@ -4,3 +4,4 @@ pub mod Sound
 pub mod Words
 pub mod Exchanges
 pub mod Since
+pub mod Chatter

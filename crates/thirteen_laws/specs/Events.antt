@@ -4,6 +4,7 @@ use Prim.Native.Nat.{ℕ, _<_}
 use mathlib.Core.Bool.{Bool, true, false}
 use mathlib.Core.List.{List, [], _∷_, _++_}
 use mathlib.Core.Path.{_≡_}
+use Rattle.chatter.specs.Histories.{runOf}
 use Rattle.commands.specs.Answers.{served}
 use Rattle.commands_laws.specs.Visits.{Visit}
 use Rattle.frame.specs.Transactions.{readBytes}
@@ -71,8 +72,7 @@ step s (call c) = result s c .state
 
 -- the state after events, the oldest first
 abbrev pub run : ThirteenState → List Event → ThirteenState
-run s [] = s
-run s (e ∷ es) = run (step s e) es
+run s es = runOf step s es
 
 -- the samples among them
 abbrev pub samplesOf : List Event → List Sample

@@ -1,0 +1,2 @@
+pub mod Chatter
+pub mod Idle
