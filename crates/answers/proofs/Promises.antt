@@ -17,9 +17,9 @@ use Rattle.capture.specs.Capture.{isCapture}
 use Rattle.capture.specs.Walk.{openedOf, seenBad}
 use Rattle.capture_writer.specs.Writer.{captureWrote, captureAnswer, captureGiven, givenFit, roomAsked}
 use Rattle.capture_laws.proofs.Walked.{step-answer}
-use Rattle.charger.specs.Charger as charger
+use Rattle.charger_state.specs.Charger as charger
 use Rattle.charger.specs.Transact as charger-bus
-use Rattle.charger.specs.declared.Sampled as charger-sampled
+use Rattle.charger_state.specs.declared.Sampled as charger-sampled
 use Rattle.charger_area.specs.Area as charger-area
 use Rattle.charger_area.specs.declared.Loaded as charger-loaded
 use Rattle.rooms.specs.Rooms.{wrote}

@@ -11,9 +11,9 @@ use Rattle.bus.specs.Transact.{packSide}
 use Rattle.capture.specs.Capture.{isCapture}
 use Rattle.capture.specs.Walk.{seenBad}
 use Rattle.capture_writer.specs.Writer.{givenFit, roomAsked}
-use Rattle.charger.specs.Charger as charger
+use Rattle.charger_state.specs.Charger as charger
 use Rattle.charger.specs.Transact.{chargerSide}
-use Rattle.charger.specs.declared.Charger.{Charger}
+use Rattle.charger_state.specs.declared.Charger.{Charger}
 use Rattle.charger_area.specs.Area.{chargerLength, isChargerArea}
 use Rattle.commands.specs.Answers.{Side, bare}
 use Rattle.commands.specs.Commands.{isReserved, isOptional, isReadOnly, isWriteOnly, isBlock}

@@ -9,9 +9,9 @@ use Rattle.area.specs.Area.{loadedOf, storedOf}
 use Rattle.bus.specs.Transact.{transactOf}
 use Rattle.capture.specs.Walk.{openedOf, stepAt, answerOf}
 use Rattle.capture_writer.specs.Writer.{captureWrote}
-use Rattle.charger.specs.Charger as charger
+use Rattle.charger_state.specs.Charger as charger
 use Rattle.charger.specs.Transact as charger-bus
-use Rattle.charger.specs.declared.Charger.{Charger}
+use Rattle.charger_state.specs.declared.Charger.{Charger}
 use Rattle.charger_area.specs.Area as charger-area
 use Rattle.clock.specs.Broadcast.{sampleOf}
 use Rattle.commands.specs.Answers.{Side, sideAnswer}

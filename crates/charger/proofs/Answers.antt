@@ -5,10 +5,10 @@ use mathlib.Core.Bool.{Bool, true, false, cond}
 use mathlib.Core.List.{List, []}
 use mathlib.Core.Path.{_≡_, refl, ap, ap₂, sym, _∙_}
 use lib.ListN.{length}
-use Rattle.charger.specs.Charger.{soundOf}
+use Rattle.charger_state.specs.Charger.{soundOf}
 use Rattle.charger.specs.Transact.{chargerSide, chargerAfter, outcome, asked, requestGiven, transactAnswer, transactReply, transactOf, replyRoom}
-use Rattle.charger.specs.Written.{chargerWritten}
-use Rattle.charger.specs.declared.Charger.{Charger}
+use Rattle.charger_written.specs.Written.{chargerWritten}
+use Rattle.charger_state.specs.declared.Charger.{Charger}
 use Rattle.commands.proofs.Answers as commands
 use Rattle.commands.specs.Answers.{requestAnswer, served, sideReply}
 use Rattle.frame.proofs.Marks.{by-read}

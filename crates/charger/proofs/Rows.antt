@@ -6,7 +6,7 @@ use mathlib.Core.List.{List}
 use mathlib.Core.Path.{_≡_, ap, sym}
 use Rattle.charger.specs.Commands.{isShown, isTaken, chargerKind}
 use Rattle.charger.specs.Transact.{chargerSide, rowGiven}
-use Rattle.charger.specs.declared.Charger.{Charger}
+use Rattle.charger_state.specs.declared.Charger.{Charger}
 use Rattle.commands.specs.Answers.{rowReply}
 use Rattle.commands.specs.declared.Kind.{Kind}
 use Rattle.commands.specs.declared.Kind.the-variants.{ReadOnly, WriteOnly, Reserved}

@@ -1,5 +1,3 @@
-pub mod Charger
 pub mod Commands
-pub mod Written
 pub mod Transact
 pub mod Delivered

@@ -4,10 +4,10 @@ use Prim.Native.Nat.{ℕ}
 use mathlib.Core.Bool.{Bool, false, cond}
 use mathlib.Core.List.{List, []}
 use lib.ListN.{length}
-use Rattle.charger.specs.Charger.{soundOf, wordOf}
+use Rattle.charger_state.specs.Charger.{soundOf, wordOf}
 use Rattle.charger.specs.Commands.{chargerKind}
-use Rattle.charger.specs.Written.{chargerWritten}
-use Rattle.charger.specs.declared.Charger.{Charger}
+use Rattle.charger_written.specs.Written.{chargerWritten}
+use Rattle.charger_state.specs.declared.Charger.{Charger}
 use Rattle.charger.specs.declared.Transacted.{Transacted}
 use Rattle.commands.specs.Answers.{Side, readAnswer, sideAnswer, served, sideReply, rowReply}
 use Rattle.commands.specs.declared.Kind.{Kind}

@@ -13,8 +13,8 @@ use lib.Seq.{sets, sets-eq, take-at, take-add, drop-at, drop-drop}
 use Rattle.area.proofs.Whole.{lent}
 use Rattle.area_parts.proofs.Parts.{flag-back, is-flag, flag-again, flag-within, latest-back, latest-again}
 use Rattle.area_parts.specs.Parts.{latestWidths, latestBytes}
-use Rattle.charger.specs.declared.Asked.{Asked}
-use Rattle.charger.specs.declared.Charger.{Charger}
+use Rattle.charger_state.specs.declared.Asked.{Asked}
+use Rattle.charger_state.specs.declared.Charger.{Charger}
 use Rattle.charger_area.specs.Area.{askedWidths, askedNumbers, askedFrom, askedBytes, askedIn, isAsked, voltageAt, inhibitedAt, countAt, latestAt, chargerLength, chargerAreaOf, chargerIn, isChargerArea, loaded, loadedOf}
 use Rattle.charger_area.specs.Laws.{ChargerFits}
 use Rattle.numbers.proofs.Numbers.{numbers-back, number-again, all-again, bytes-between}

@@ -16,9 +16,9 @@ use mathlib.Core.List.{List, [], _∷_, _++_}
 use lib.Dec.{eqb}
 use lib.ListN.{length, getD, drop}
 use Rattle.area_parts.specs.Parts.{latestWidths, latestBytes, latestIn}
-use Rattle.charger.specs.Charger.{powerOn}
-use Rattle.charger.specs.declared.Asked.{Asked}
-use Rattle.charger.specs.declared.Charger.{Charger}
+use Rattle.charger_state.specs.Charger.{powerOn}
+use Rattle.charger_state.specs.declared.Asked.{Asked}
+use Rattle.charger_state.specs.declared.Charger.{Charger}
 use Rattle.charger_area.specs.declared.Loaded.{Loaded}
 use Rattle.numbers.specs.Numbers.{numberBytes, numbersBytes, numberAt, numbersAt, bytesTaken, flagOf, flagged, flags}
 use Rattle.rooms.specs.Rooms.{between}

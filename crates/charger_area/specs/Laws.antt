@@ -4,7 +4,7 @@ use mathlib.Core.Path.{_≡_}
 use mathlib.Core.Bool.{true}
 use mathlib.Core.List.{List}
 use Prim.Native.Nat.{ℕ, _^_, _<_}
-use Rattle.charger.specs.declared.Charger.{Charger}
+use Rattle.charger_state.specs.declared.Charger.{Charger}
 use Rattle.charger_area.specs.Area.{chargerAreaOf, chargerIn, isChargerArea}
 use Rattle.pack.specs.Fits.{LatestFit}
 use Rattle.rooms.specs.Rooms.{Bytes}

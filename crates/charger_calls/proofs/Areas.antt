@@ -7,10 +7,10 @@ use Prim.Native.Nat.{ℕ, _≤_}
 use native.Mathlib.Omega.{arith}
 use lib.Dec.{eqb}
 use lib.ListN.{length}
-use Rattle.charger.specs.Charger.{sampleOf}
+use Rattle.charger_state.specs.Charger.{sampleOf}
 use Rattle.charger.specs.Transact.{chargerSide, asked, transactAnswer, transactOf, replyRoom}
-use Rattle.charger.specs.declared.Charger.{Charger}
-use Rattle.charger.specs.declared.Sampled.{Sampled}
+use Rattle.charger_state.specs.declared.Charger.{Charger}
+use Rattle.charger_state.specs.declared.Sampled.{Sampled}
 use Rattle.charger.specs.declared.Transacted.{Transacted}
 use Rattle.charger_area.specs.Area.{chargerIn, isChargerArea, loadedOf}
 use Rattle.charger_area.specs.declared.Loaded.{Loaded}

@@ -8,10 +8,10 @@ use borrow.Author.Tests.{eq-eqb}
 use lib.Dec.{eqb, ltb}
 use lib.ListN.{length}
 use Rattle.charger.proofs.Answers.{read-stays}
-use Rattle.charger.specs.Charger.{soundOf, sampleOf}
+use Rattle.charger_state.specs.Charger.{soundOf, sampleOf}
 use Rattle.charger.specs.Transact.{chargerSide, chargerAfter, asked, transactAnswer, transactOf}
-use Rattle.charger.specs.declared.Charger.{Charger}
-use Rattle.charger.specs.declared.Sampled.{Sampled}
+use Rattle.charger_state.specs.declared.Charger.{Charger}
+use Rattle.charger_state.specs.declared.Sampled.{Sampled}
 use Rattle.charger_area.proofs.Whole.{held}
 use Rattle.charger_area.specs.Area.{chargerAreaOf, chargerIn}
 use Rattle.charger_calls.specs.Calls.{areaAfter, sampleArea, transactArea}

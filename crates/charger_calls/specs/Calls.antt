@@ -5,10 +5,10 @@ use mathlib.Core.List.{List}
 use Prim.Native.Nat.{ℕ}
 use lib.Dec.{eqb}
 use lib.ListN.{length}
-use Rattle.charger.specs.Charger.{setUpOf, soundOf, currentOf, sampleOf}
+use Rattle.charger_state.specs.Charger.{setUpOf, soundOf, currentOf, sampleOf}
 use Rattle.charger.specs.Transact.{transactOf, replyRoom}
-use Rattle.charger.specs.declared.Charger.{Charger}
-use Rattle.charger.specs.declared.Sampled.{Sampled}
+use Rattle.charger_state.specs.declared.Charger.{Charger}
+use Rattle.charger_state.specs.declared.Sampled.{Sampled}
 use Rattle.charger.specs.declared.Transacted.{Transacted}
 use Rattle.charger_area.specs.Area.{chargerAreaOf, chargerIn, isChargerArea, storedOf, storedRoom}
 use Rattle.pack.specs.declared.Sample.{Sample}

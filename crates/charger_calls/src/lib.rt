@@ -3,7 +3,7 @@ ghost use mathlib.Core.Path.{_≡_};
 ghost use lib.ListN.{length};
 ghost use Rattle.charger_area.specs.Area.{chargerLength};
 ghost use Rattle.charger_calls.specs.Calls.{startNumber, startArea, soundIn, areaAfter, sampleNumber, sampleArea, transactNumber, transactArea, transactRoom, currentNumber};
-use charger::Charger;
+use charger_state::Charger;
 use pack::Sample;
 use packed::pack_up;
 
@@ -12,7 +12,7 @@ pub fn set_up(area: &mut [u8], first: Sample) -> u32
     ensures { λ r. ⌜ r ≡ startNumber (now (area .entry)) ⌝ }
     ensures { λ _. ⌜ now (area .exit) ≡ startArea (now (area .entry)) first ⌝ }
 {
-    let state = charger::set_up(first);
+    let state = charger_state::set_up(first);
     charger_area::store(state, area) as u32
 }
 
@@ -23,7 +23,7 @@ pub fn sound(area: &[u8]) -> bool
     if held.answer != 0 {
         return false;
     }
-    charger::sound(held.state)
+    charger_state::sound(held.state)
 }
 
 // Stored only where something changes, so that no byte of an EEPROM is written for nothing.
@@ -44,7 +44,7 @@ pub fn sample(area: &mut [u8], sample: Sample) -> u32
     if held.answer != 0 {
         return 1;
     }
-    let out = charger::sample(held.state, sample);
+    let out = charger_state::sample(held.state, sample);
     keep(area, out.answer == 0, out.state);
     out.answer as u32
 }
@@ -71,8 +71,8 @@ pub fn current(area: &[u8]) -> u32
     if held.answer != 0 {
         return 1;
     }
-    if !charger::sound(held.state) {
+    if !charger_state::sound(held.state) {
         return 1;
     }
-    pack_up(0, charger::current(held.state) as usize)
+    pack_up(0, charger_state::current(held.state) as usize)
 }

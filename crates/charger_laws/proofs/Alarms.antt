@@ -8,11 +8,11 @@ use mathlib.Core.Path.{_≡_, refl, sym, ap, ap₂, _∙_}
 use native.Mathlib.Omega.{arith}
 use borrow.Author.Tests.{ne-eqb}
 use Rattle.charger.proofs.Answers.{by-outcome}
-use Rattle.charger.specs.Charger.{soundOf, alarmInhibited, asksFor, silent, currentOf, sampledOf}
+use Rattle.charger_state.specs.Charger.{soundOf, alarmInhibited, asksFor, silent, currentOf, sampledOf}
 use Rattle.charger.specs.Commands.{chargerKind}
-use Rattle.charger.specs.Written.{takenAs, endsCharge, chargerWritten}
-use Rattle.charger.specs.declared.Asked.{Asked}
-use Rattle.charger.specs.declared.Charger.{Charger}
+use Rattle.charger_written.specs.Written.{takenAs, endsCharge, chargerWritten}
+use Rattle.charger_state.specs.declared.Asked.{Asked}
+use Rattle.charger_state.specs.declared.Charger.{Charger}
 use Rattle.charger.specs.declared.Transacted.{Transacted}
 use Rattle.charger_laws.proofs.Cases.{call-cases, not-taken, write-cases, sample-cases}
 use Rattle.charger_laws.proofs.Laws.{written-sound}

@@ -6,11 +6,11 @@ use mathlib.Core.List.{List}
 use mathlib.Core.Path.{_≡_, refl, sym, ap, _∙_}
 use lib.Dec.{eqb}
 use Rattle.rooms.proofs.Choice.{chosen}
-use Rattle.charger.specs.Charger.{powerOn, soundOf, sampledOf, sampleOf}
+use Rattle.charger_state.specs.Charger.{powerOn, soundOf, sampledOf, sampleOf}
 use Rattle.charger.specs.Transact.{chargerAfter, asked, transactAnswer, transactOf}
-use Rattle.charger.specs.Written.{zeroedIf, modeWritten, currentWritten, voltageWritten, alarmWritten, chargerWritten}
-use Rattle.charger.specs.declared.Charger.{Charger}
-use Rattle.charger.specs.declared.Sampled.{Sampled}
+use Rattle.charger_written.specs.Written.{zeroedIf, modeWritten, currentWritten, voltageWritten, alarmWritten, chargerWritten}
+use Rattle.charger_state.specs.declared.Charger.{Charger}
+use Rattle.charger_state.specs.declared.Sampled.{Sampled}
 use Rattle.charger_laws.specs.Events.{Call, result, answer, call, writes, takes}
 use Rattle.commands.specs.Answers.{served}
 use Rattle.frame.specs.declared.Request.{Request}

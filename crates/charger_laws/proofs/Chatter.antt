@@ -5,7 +5,7 @@ use mathlib.Core.Bool.{true, not, cond, true≢false}
 use mathlib.Core.Path.{_≡_, refl, sym, ap, _∙_}
 use native.Mathlib.Omega.{arith}
 use lib.Dec.{eqb}
-use Rattle.charger.specs.declared.Charger.{Charger}
+use Rattle.charger_state.specs.declared.Charger.{Charger}
 use Rattle.charger_laws.proofs.Cases.{sample-cases}
 use Rattle.charger_laws.proofs.Laws.{idle-keeps}
 use Rattle.charger_laws.specs.Events.{answer, Event, sample, call, step, passes, addsTime, answerTo, replyTo, isIdle, chargerParty}

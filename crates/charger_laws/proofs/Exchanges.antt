@@ -6,10 +6,10 @@ use mathlib.Core.Path.{_≡_, refl, sym, ap, _∙_}
 use native.Mathlib.Omega.{arith}
 use lib.Dec.{eqb}
 use lib.ListN.{length}
-use Rattle.charger.specs.Charger.{alarmInhibited, voltageNotMet, currentNotMet, statusOf, wordOf}
+use Rattle.charger_state.specs.Charger.{alarmInhibited, voltageNotMet, currentNotMet, statusOf, wordOf}
 use Rattle.charger.specs.Commands.{isShown, isTaken, chargerKind}
 use Rattle.charger.specs.Transact.{chargerSide, transactAnswer, transactReply}
-use Rattle.charger.specs.declared.Charger.{Charger}
+use Rattle.charger_state.specs.declared.Charger.{Charger}
 use Rattle.charger_laws.specs.Events.{Call, answer, exchange, visit, Reads, Exchanged}
 use Rattle.charger_laws.specs.Promises.{ExchangePasses, ExchangeAccepted, ExchangesApart, Misheard}
 use Rattle.commands.specs.Answers.{served}

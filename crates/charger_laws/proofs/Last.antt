@@ -5,11 +5,11 @@ use mathlib.Core.Bool.{Bool, true, false, cond, _&&_, _||_, true≢false}
 use mathlib.Core.List.{List, [], _∷_}
 use mathlib.Core.Path.{_≡_, refl, sym, ap, _∙_}
 use lib.Dec.{eqb}
-use Rattle.charger.specs.Charger.{powerOn, sampledOf}
+use Rattle.charger_state.specs.Charger.{powerOn, sampledOf}
 use Rattle.charger.specs.Commands.{chargerKind}
 use Rattle.charger.specs.Transact.{asked}
-use Rattle.charger.specs.Written.{zeroedIf, modeWritten, chargerWritten}
-use Rattle.charger.specs.declared.Charger.{Charger}
+use Rattle.charger_written.specs.Written.{zeroedIf, modeWritten, chargerWritten}
+use Rattle.charger_state.specs.declared.Charger.{Charger}
 use Rattle.charger_laws.proofs.Alarms.{write-taken}
 use Rattle.charger_laws.proofs.Cases.{call-cases, not-taken, sample-cases}
 use Rattle.charger_laws.specs.Events.{Call, answer, Event, sample, call, step, run, takes, resetting, resets, NoReset, NoneTaken}

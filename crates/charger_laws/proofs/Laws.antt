@@ -10,11 +10,11 @@ use borrow.Author.Tests.{le-leb}
 use lib.Dec.{ltb}
 use lib.ListN.{length}
 use Rattle.charger.proofs.Answers.{read-stays, refused-outcome, refusal}
-use Rattle.charger.specs.Charger.{soundOf, sampledOf, sampleOf}
+use Rattle.charger_state.specs.Charger.{soundOf, sampledOf, sampleOf}
 use Rattle.charger.specs.Commands.{isShown, isTaken, chargerKind}
 use Rattle.charger.specs.Transact.{chargerSide, chargerAfter, asked, transactAnswer, transactOf}
-use Rattle.charger.specs.Written.{chargerWritten}
-use Rattle.charger.specs.declared.Charger.{Charger}
+use Rattle.charger_written.specs.Written.{chargerWritten}
+use Rattle.charger_state.specs.declared.Charger.{Charger}
 use Rattle.charger.specs.declared.Transacted.{Transacted}
 use Rattle.charger_laws.proofs.Cases.{call-cases, write-cases, sample-cases}
 use Rattle.charger_laws.specs.Events.{Call, result, answer, visit, Event, sample, call, step, run}

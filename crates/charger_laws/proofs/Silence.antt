@@ -7,11 +7,11 @@ use mathlib.Core.Path.{_≡_, refl, sym, ap, ap₂, _∙_}
 use native.Mathlib.Omega.{arith}
 use borrow.Author.Tests.{le-leb, lt-leb, leb-true}
 use lib.Dec.{eqb, leb}
-use Rattle.charger.specs.Charger.{soundOf, alarmInhibited, asksFor, currentOf, sampledOf, sampleOf}
-use Rattle.charger.specs.Written.{chargerWritten}
-use Rattle.charger.specs.declared.Asked.{Asked}
-use Rattle.charger.specs.declared.Charger.{Charger}
-use Rattle.charger.specs.declared.Sampled.{Sampled}
+use Rattle.charger_state.specs.Charger.{soundOf, alarmInhibited, asksFor, currentOf, sampledOf, sampleOf}
+use Rattle.charger_written.specs.Written.{chargerWritten}
+use Rattle.charger_state.specs.declared.Asked.{Asked}
+use Rattle.charger_state.specs.declared.Charger.{Charger}
+use Rattle.charger_state.specs.declared.Sampled.{Sampled}
 use Rattle.charger_laws.proofs.Cases.{call-cases, not-taken, write-cases, sample-cases, sample-goes-on}
 use Rattle.charger_laws.proofs.Laws.{step-sound}
 use Rattle.charger_laws.specs.Events.{Call, result, Event, sample, call, step, run, passes, timeOf, takes, NoneTaken}

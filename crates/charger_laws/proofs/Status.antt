@@ -11,8 +11,8 @@ use lib.Signed.{ltZ}
 use mir.Syntax.{w16}
 use mir.Val.{toZ}
 use mir.ValLaws.{toZ-ofZ}
-use Rattle.charger.specs.Charger.{alarmInhibited, voltageNotMet, currentNotMet, statusOf}
-use Rattle.charger.specs.declared.Charger.{Charger}
+use Rattle.charger_state.specs.Charger.{alarmInhibited, voltageNotMet, currentNotMet, statusOf}
+use Rattle.charger_state.specs.declared.Charger.{Charger}
 use Rattle.charger_laws.specs.Promises.{StatusBits, NotMetTrue}
 use Rattle.pack.specs.declared.Latest.{Latest}
 use Rattle.registers.specs.Registers.{bit}

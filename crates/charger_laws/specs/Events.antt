@@ -5,9 +5,9 @@ use mathlib.Core.Bool.{Bool, true, false, cond, not, _&&_, _||_}
 use mathlib.Core.List.{List, [], _∷_, _++_}
 use mathlib.Core.Path.{_≡_}
 use lib.Dec.{eqb}
-use Rattle.charger.specs.Charger.{sampleOf, wordOf}
+use Rattle.charger_state.specs.Charger.{sampleOf, wordOf}
 use Rattle.charger.specs.Transact.{chargerSide, asked, transactAnswer, transactReply, transactOf}
-use Rattle.charger.specs.declared.Charger.{Charger}
+use Rattle.charger_state.specs.declared.Charger.{Charger}
 use Rattle.charger.specs.declared.Transacted.{Transacted}
 use Rattle.chatter.specs.Histories.{runOf, over}
 use Rattle.chatter.specs.Struck.{Party}

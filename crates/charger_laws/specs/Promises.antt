@@ -8,10 +8,10 @@ use mathlib.Core.Path.{_≡_}
 use lib.IntN.{pos}
 use lib.ListN.{length, getD, replicate}
 use lib.Signed.{ltZ}
-use Rattle.charger.specs.Charger.{setUpOf, soundOf, alarmInhibited, currentOf, asksFor, voltageNotMet, currentNotMet, statusOf, sampleOf}
+use Rattle.charger_state.specs.Charger.{setUpOf, soundOf, alarmInhibited, currentOf, asksFor, voltageNotMet, currentNotMet, statusOf, sampleOf}
 use Rattle.charger.specs.Transact.{outcome, transactAnswer, transactOf, replyRoom}
-use Rattle.charger.specs.Written.{endsCharge}
-use Rattle.charger.specs.declared.Charger.{Charger}
+use Rattle.charger_written.specs.Written.{endsCharge}
+use Rattle.charger_state.specs.declared.Charger.{Charger}
 use Rattle.charger_laws.specs.Events.{Call, result, answer, reply, exchange, Reads, Writes, Exchanged, Event, sample, call, step, run, timeOf, NoReset, NoneTaken, chargerParty}
 use Rattle.chatter.specs.Struck.{Struck, Unmoved}
 use Rattle.commands.specs.Answers.{served}

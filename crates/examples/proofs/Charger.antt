@@ -1,8 +1,8 @@
 -- A charger's evening holds: computed.
 -- Assumes nothing.
 use mathlib.Core.Path.{refl}
-use Rattle.charger.specs.Charger.{currentOf, statusOf, sampledOf}
-use Rattle.charger.specs.Written.{modeWritten, chargerWritten}
+use Rattle.charger_state.specs.Charger.{currentOf, statusOf, sampledOf}
+use Rattle.charger_written.specs.Written.{modeWritten, chargerWritten}
 use Rattle.examples.specs.Charger.{EveningByHand}
 
 pub evening-by-hand : EveningByHand

@@ -4,9 +4,9 @@ use Prim.Native.Nat.{ℕ}
 use mathlib.Core.List.{List, [], _∷_}
 use mathlib.Core.Path.{_≡_}
 use lib.IntN.{ℤ, pos, negsuc}
-use Rattle.charger.specs.Charger.{setUpOf, currentOf, wordOf, sampledOf}
-use Rattle.charger.specs.Written.{chargerWritten}
-use Rattle.charger.specs.declared.Charger.{Charger}
+use Rattle.charger_state.specs.Charger.{setUpOf, currentOf, wordOf, sampledOf}
+use Rattle.charger_written.specs.Written.{chargerWritten}
+use Rattle.charger_state.specs.declared.Charger.{Charger}
 use Rattle.pack.specs.declared.Sample.{Sample}
 
 -- what a charger measures at the pack

@@ -4,8 +4,8 @@ use Prim.Native.Nat.{ℕ}
 use mathlib.Core.Bool.{Bool, true, cond, true≢false}
 use mathlib.Core.List.{List, [], _∷_, _++_}
 use mathlib.Core.Path.{_≡_, refl, sym, ap, ap₂, _∙_}
-use Rattle.charger.specs.Charger.{currentOf}
-use Rattle.charger.specs.declared.Charger.{Charger}
+use Rattle.charger_state.specs.Charger.{currentOf}
+use Rattle.charger_state.specs.declared.Charger.{Charger}
 use Rattle.charger_laws.proofs.Chatter as chargers
 use Rattle.charger_laws.specs.Events as charger
 use Rattle.chatter.proofs.Chatter.{chatter-is-idle}

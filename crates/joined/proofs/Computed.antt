@@ -12,10 +12,10 @@ use lib.IntN.{ℤ, pos, negsuc}
 use Rattle.alarms.specs.Alarms.{terminateCharge, chargerAlarm}
 use Rattle.broadcasts.specs.Broadcasts.{alarmGoes, chargerGoes, alarmsOf, chargerWordsOf}
 use Rattle.bus.specs.Transact as bus
-use Rattle.charger.specs.Charger as charger
+use Rattle.charger_state.specs.Charger as charger
 use Rattle.charger.specs.Commands.{chargerKind}
 use Rattle.charger.specs.Transact as side
-use Rattle.charger.specs.Written.{modeWritten, chargerWritten}
+use Rattle.charger_written.specs.Written.{modeWritten, chargerWritten}
 use Rattle.clock.specs.Broadcast.{sampledOf, sampleOf}
 use Rattle.clock.specs.Sample.{elapsedOf, movedOf}
 use Rattle.commands.specs.Answers.{sideAnswer, codeAfter}

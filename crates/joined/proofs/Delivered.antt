@@ -12,12 +12,12 @@ use lib.Seq.{take-at, drop-at, drop-drop}
 use Rattle.alarms.specs.Alarms.{chargerAlarm, chargingCurrent}
 use Rattle.broadcasts.specs.Broadcasts.{alarmGoes, chargerGoes, alarmsOf, chargerWordsOf, messagesOf, broadcastOf}
 use Rattle.charger.proofs.Answers.{by-outcome}
-use Rattle.charger.specs.Charger.{soundOf as chargerSound}
+use Rattle.charger_state.specs.Charger.{soundOf as chargerSound}
 use Rattle.charger.specs.Commands.{chargerKind}
 use Rattle.charger.specs.Delivered.{isMessage, messageAt}
 use Rattle.charger.specs.Transact.{asked, chargerAfter, transactAnswer, transactOf}
-use Rattle.charger.specs.Written.{chargerWritten}
-use Rattle.charger.specs.declared.Charger.{Charger}
+use Rattle.charger_written.specs.Written.{chargerWritten}
+use Rattle.charger_state.specs.declared.Charger.{Charger}
 use Rattle.charger.specs.declared.Transacted.{Transacted}
 use Rattle.charger_laws.proofs.Laws.{written-sound}
 use Rattle.charger_laws.specs.Events as charger

@@ -4,9 +4,9 @@ use mathlib.Core.Bool.{Bool, true, false, cond}
 use mathlib.Core.Path.{_≡_, refl, ap}
 use Rattle.alarms.specs.Alarms.{chargingCurrent}
 use Rattle.broadcasts.specs.Broadcasts.{chargerGoes}
-use Rattle.charger.specs.Charger.{alarmInhibited, sampledOf as chargerSampledOf}
-use Rattle.charger.specs.Written.{chargerWritten}
-use Rattle.charger.specs.declared.Charger.{Charger}
+use Rattle.charger_state.specs.Charger.{alarmInhibited, sampledOf as chargerSampledOf}
+use Rattle.charger_written.specs.Written.{chargerWritten}
+use Rattle.charger_state.specs.declared.Charger.{Charger}
 use Rattle.clock.specs.Sample.{movedOf}
 use Rattle.joined.proofs.Delivered.{broadcastTaken}
 use Rattle.joined.proofs.Steps.{tick-charger}

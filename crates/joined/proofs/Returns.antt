@@ -8,9 +8,9 @@ use native.Mathlib.Omega.{arith}
 use borrow.Author.Tests.{le-leb, lt-leb}
 use Rattle.alarms.specs.Alarms.{chargerAlarm, chargingCurrent, terminateCharge, overTemp}
 use Rattle.broadcasts.specs.Broadcasts.{alarmGoes, chargerGoes}
-use Rattle.charger.specs.Charger.{currentOf, sampledOf as chargerSampledOf}
-use Rattle.charger.specs.Written.{takenAs, chargerWritten}
-use Rattle.charger.specs.declared.Charger.{Charger}
+use Rattle.charger_state.specs.Charger.{currentOf, sampledOf as chargerSampledOf}
+use Rattle.charger_written.specs.Written.{takenAs, chargerWritten}
+use Rattle.charger_state.specs.declared.Charger.{Charger}
 use Rattle.charger_laws.proofs.Alarms.{both-taken}
 use Rattle.clock.specs.Sample.{elapsedOf, movedOf}
 use Rattle.clock_laws.specs.Steps.{gap}

@@ -9,10 +9,10 @@ use lib.Dec.{eqb, leb}
 use Rattle.alarms.specs.Alarms.{chargerAlarm, chargingCurrent, terminateCharge}
 use Rattle.broadcasts.specs.Broadcasts.{alarmGoes, chargerGoes}
 use Rattle.bus_laws.specs.Calls.{Call}
-use Rattle.charger.specs.Charger.{soundOf as chargerSound, sampledOf as chargerSampledOf}
-use Rattle.charger.specs.Written.{chargerWritten}
-use Rattle.charger.specs.declared.Charger.{Charger}
-use Rattle.charger.specs.declared.Sampled.{Sampled as ChargerSampled}
+use Rattle.charger_state.specs.Charger.{soundOf as chargerSound, sampledOf as chargerSampledOf}
+use Rattle.charger_written.specs.Written.{chargerWritten}
+use Rattle.charger_state.specs.declared.Charger.{Charger}
+use Rattle.charger_state.specs.declared.Sampled.{Sampled as ChargerSampled}
 use Rattle.charger_laws.proofs.Cases.{sample-goes-on}
 use Rattle.charger_laws.proofs.Laws.{step-sound as charger-step-sound, sound-stays as charger-sound-stays, idle-keeps}
 use Rattle.charger_laws.specs.Events as charger

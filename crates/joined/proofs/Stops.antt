@@ -9,9 +9,9 @@ use borrow.Author.Tests.{le-leb, lt-leb}
 use Rattle.alarms.specs.Alarms.{chargerAlarm, chargingCurrent, terminateCharge}
 use Rattle.broadcasts.specs.Broadcasts.{alarmGoes, chargerGoes}
 use Rattle.capacity.proofs.Bounds.{either}
-use Rattle.charger.specs.Charger.{stopped, currentOf, sampledOf as chargerSampledOf}
-use Rattle.charger.specs.Written.{chargerWritten}
-use Rattle.charger.specs.declared.Charger.{Charger}
+use Rattle.charger_state.specs.Charger.{stopped, currentOf, sampledOf as chargerSampledOf}
+use Rattle.charger_written.specs.Written.{chargerWritten}
+use Rattle.charger_state.specs.declared.Charger.{Charger}
 use Rattle.clock.specs.Sample.{movedOf}
 use Rattle.clock_laws.specs.Steps.{gap}
 use Rattle.joined.proofs.Delivered.{broadcastTaken}

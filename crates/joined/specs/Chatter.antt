@@ -3,7 +3,7 @@
 use mathlib.Core.Bool.{Bool, false}
 use mathlib.Core.List.{List}
 use mathlib.Core.Path.{_≡_}
-use Rattle.charger.specs.Charger.{currentOf}
+use Rattle.charger_state.specs.Charger.{currentOf}
 use Rattle.charger_laws.specs.Events as charger
 use Rattle.chatter.specs.Struck.{Party, Struck, Unmoved}
 use Rattle.joined.specs.Joined.{Joint, Happening, tick, host, asks, packSample, messagesFrom, happen, afterAll}

@@ -7,7 +7,7 @@ use mathlib.Core.Logic.{_⊎_}
 use mathlib.Core.Path.{_≡_}
 use Rattle.bus_laws.specs.Calls.{Call}
 use Rattle.charger.specs.Delivered.{messageAt}
-use Rattle.charger.specs.declared.Charger.{Charger}
+use Rattle.charger_state.specs.declared.Charger.{Charger}
 use Rattle.charger_laws.specs.Events as charger
 use Rattle.chatter.specs.Histories.{runOf}
 use Rattle.clock.specs.Broadcast.{sampleOf}

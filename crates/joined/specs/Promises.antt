@@ -6,7 +6,7 @@ use mathlib.Core.List.{List, [], _∷_, _++_}
 use mathlib.Core.Path.{_≡_}
 use Rattle.alarms.specs.Alarms.{terminateCharge, chargerAlarm, chargingCurrent}
 use Rattle.broadcasts.specs.Broadcasts.{chargerGoes}
-use Rattle.charger.specs.Charger.{alarmInhibited, currentOf, setUpOf as chargerSetUpOf, soundOf as chargerSound}
+use Rattle.charger_state.specs.Charger.{alarmInhibited, currentOf, setUpOf as chargerSetUpOf, soundOf as chargerSound}
 use Rattle.clock.specs.Sample.{movedOf}
 use Rattle.joined.specs.Joined.{Joint, Tick, Happening, tick, packSample, eventsOf, happen, afterAll, AllFair, Throughout, Within}
 use Rattle.pack.specs.Sound.{soundOf}

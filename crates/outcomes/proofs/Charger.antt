@@ -4,10 +4,10 @@ use mathlib.Core.Path.{refl}
 use Rattle.outcomes.specs.Outcome.{Settled}
 use Rattle.outcomes.specs.Charger.{chargerSetUpTerms, chargerSoundTerms, chargerCurrentTerms, chargerSampleTerms, chargerTransactTerms, chargerMessageTerms, chargerStoreTerms, chargerIsAreaTerms, chargerLoadTerms}
 use Rattle.outcomes.proofs.One.{settled}
-use Rattle.charger.proofs.set_up as charger-set-up-owed
-use Rattle.charger.proofs.sound as charger-sound-owed
-use Rattle.charger.proofs.current as charger-current-owed
-use Rattle.charger.proofs.sample as charger-sample-owed
+use Rattle.charger_state.proofs.set_up as charger-set-up-owed
+use Rattle.charger_state.proofs.sound as charger-sound-owed
+use Rattle.charger_state.proofs.current as charger-current-owed
+use Rattle.charger_state.proofs.sample as charger-sample-owed
 use Rattle.charger.proofs.transact as charger-transact-owed
 use Rattle.charger.proofs.message as charger-message-owed
 use Rattle.charger_area.proofs.store as charger-store-owed

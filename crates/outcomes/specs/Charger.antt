@@ -1,11 +1,11 @@
 -- The charger and its area: what comes out of each public function, and what must.
 -- Assumes nothing.
 use Prim.Native.Nat.{ℕ}
-use Rattle.charger.specs.Charger.{currentOf, sampleOf, setUpOf, soundOf}
+use Rattle.charger_state.specs.Charger.{currentOf, sampleOf, setUpOf, soundOf}
 use Rattle.charger.specs.Delivered.{messageAt, messagePlace}
 use Rattle.charger.specs.Transact.{replyRoom, transactOf}
-use Rattle.charger.specs.declared.Charger.{Charger}
-use Rattle.charger.specs.declared.Sampled.{Sampled}
+use Rattle.charger_state.specs.declared.Charger.{Charger}
+use Rattle.charger_state.specs.declared.Sampled.{Sampled}
 use Rattle.charger.specs.declared.Transacted.{Transacted}
 use Rattle.charger_area.specs.Area.{chargerAreaOf, isChargerArea, loaded, loadedOf, storedOf, storedRoom}
 use Rattle.charger_area.specs.declared.Loaded.{Loaded}
@@ -15,10 +15,10 @@ use lib.ListN.{length}
 use mathlib.Core.Bool.{Bool}
 use mathlib.Core.List.{List, [], _∷_}
 use mathlib.Core.Path.{_≡_}
-use Rattle.charger.proofs.set_up as charger-set-up-owed
-use Rattle.charger.proofs.sound as charger-sound-owed
-use Rattle.charger.proofs.current as charger-current-owed
-use Rattle.charger.proofs.sample as charger-sample-owed
+use Rattle.charger_state.proofs.set_up as charger-set-up-owed
+use Rattle.charger_state.proofs.sound as charger-sound-owed
+use Rattle.charger_state.proofs.current as charger-current-owed
+use Rattle.charger_state.proofs.sample as charger-sample-owed
 use Rattle.charger.proofs.transact as charger-transact-owed
 use Rattle.charger.proofs.message as charger-message-owed
 use Rattle.charger_area.proofs.store as charger-store-owed

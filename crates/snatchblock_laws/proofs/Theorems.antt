@@ -17,7 +17,7 @@ use Rattle.capture.specs.Walk.{openedOf, stepAt, answerOf}
 use Rattle.capture.specs.declared.Opened.{Opened}
 use Rattle.capture.specs.declared.Step.{Step}
 use Rattle.capture.specs.declared.Step.the-variants.{Next, End, NotCapture}
-use Rattle.charger.specs.Charger.{currentOf}
+use Rattle.charger_state.specs.Charger.{currentOf}
 use Rattle.charger.specs.Transact as charger
 use Rattle.charger_area.specs.Area.{chargerIn, isChargerArea}
 use Rattle.charger_calls.specs.Calls as chargers

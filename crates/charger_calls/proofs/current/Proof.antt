@@ -3,8 +3,8 @@
 use borrow.Author.Needs.{needs}
 use borrow.Author.Tests.{not-true, not-false}
 use mathlib.Core.Path.{sym, ap, _∙_}
-use Rattle.charger.specs.Charger.{soundOf}
-use Rattle.charger.specs.declared.Charger.{Charger}
+use Rattle.charger_state.specs.Charger.{soundOf}
+use Rattle.charger_state.specs.declared.Charger.{Charger}
 use Rattle.charger_calls.proofs.Areas.{no-area, an-area}
 use Rattle.charger_calls.proofs.current.Statement.{statement}
 use Rattle.charger_calls.proofs.current.Tie as tie

@@ -2,7 +2,7 @@
 -- Assumes nothing.
 use borrow.Author.Needs.{needs}
 use mathlib.Core.Path.{ap, _∙_}
-use Rattle.charger.specs.declared.Charger.{Charger}
+use Rattle.charger_state.specs.declared.Charger.{Charger}
 use Rattle.charger_area.specs.Area.{storedRoom}
 use Rattle.charger_calls.proofs.set_up.Statement.{statement}
 use Rattle.charger_calls.proofs.set_up.Tie as tie

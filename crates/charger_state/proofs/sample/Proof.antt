@@ -1,12 +1,12 @@
--- `charger::sample` meets its contract.
+-- `charger_state::sample` meets its contract.
 -- Assumes nothing.
 use mathlib.Core.Path.{sym, _∙_}
 use native.Mathlib.Omega.{arith}
 use borrow.Author.Needs.{needs}
 use borrow.Author.Tests.{leb-true, not-true, not-false}
-use Rattle.charger.specs.Charger.{sampleOf, sampledOf}
-use Rattle.charger.proofs.sample.Statement.{statement}
-use Rattle.charger.proofs.sample.Tie as tie
+use Rattle.charger_state.specs.Charger.{sampleOf, sampledOf}
+use Rattle.charger_state.proofs.sample.Statement.{statement}
+use Rattle.charger_state.proofs.sample.Tie as tie
 
 returns : tie.Need-returns
 unfolding sampleOf

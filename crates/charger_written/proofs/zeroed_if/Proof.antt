@@ -1,7 +1,7 @@
--- `charger::zeroed_if` meets its contract.
+-- `charger_written::zeroed_if` meets its contract.
 -- Assumes nothing.
-use Rattle.charger.proofs.zeroed_if.Statement.{statement}
-use Rattle.charger.proofs.zeroed_if.Tie as tie
+use Rattle.charger_written.proofs.zeroed_if.Statement.{statement}
+use Rattle.charger_written.proofs.zeroed_if.Tie as tie
 
 returns : tie.Need-returns
 returns c = simp (c .if1 .taken)

@@ -3,9 +3,9 @@
 use Prim.Native.Nat.{ℕ}
 use mathlib.Core.Bool.{Bool, true, false, cond, _||_}
 use lib.Dec.{eqb}
-use Rattle.charger.specs.Charger.{powerOn}
-use Rattle.charger.specs.declared.Asked.{Asked}
-use Rattle.charger.specs.declared.Charger.{Charger}
+use Rattle.charger_state.specs.Charger.{powerOn}
+use Rattle.charger_state.specs.declared.Asked.{Asked}
+use Rattle.charger_state.specs.declared.Charger.{Charger}
 use Rattle.written.specs.Written.{bitSet}
 
 -- a request that was taken, and is awaited no longer (RULES 14.8, 14.9)

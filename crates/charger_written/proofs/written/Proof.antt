@@ -1,10 +1,10 @@
--- `charger::written` meets its contract: each arm by its key, the default by all the keys that it isn't.
+-- `charger_written::written` meets its contract: each arm by its key, the default by all the keys that it isn't.
 -- Assumes nothing.
 use borrow.Author.Needs.{needs}
 use borrow.Author.Tests.{eq-eqb, ne-eqb}
-use Rattle.charger.specs.Written.{chargerWritten}
-use Rattle.charger.proofs.written.Statement.{statement}
-use Rattle.charger.proofs.written.Tie as tie
+use Rattle.charger_written.specs.Written.{chargerWritten}
+use Rattle.charger_written.proofs.written.Statement.{statement}
+use Rattle.charger_written.proofs.written.Tie as tie
 
 returns : tie.Need-returns
 unfolding chargerWritten

@@ -1,8 +1,8 @@
--- `charger::alarm_written` meets its contract.
+-- `charger_written::alarm_written` meets its contract.
 -- Assumes nothing.
 use borrow.Author.Needs.{needs}
-use Rattle.charger.proofs.alarm_written.Statement.{statement}
-use Rattle.charger.proofs.alarm_written.Tie as tie
+use Rattle.charger_written.proofs.alarm_written.Statement.{statement}
+use Rattle.charger_written.proofs.alarm_written.Tie as tie
 
 returns : tie.Need-returns
 returns c =

@@ -1,9 +1,9 @@
--- `charger::word` meets its contract.
+-- `charger_state::word` meets its contract.
 -- Assumes nothing.
 use borrow.Author.Needs.{needs}
 use borrow.Author.Tests.{eq-eqb, ne-eqb}
-use Rattle.charger.proofs.word.Statement.{statement}
-use Rattle.charger.proofs.word.Tie as tie
+use Rattle.charger_state.proofs.word.Statement.{statement}
+use Rattle.charger_state.proofs.word.Tie as tie
 
 returns : tie.Need-returns
 returns c = simp (eq-eqb _ _ (c .if1 .taken))

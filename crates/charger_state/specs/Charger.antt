@@ -3,9 +3,9 @@
 use Prim.Native.Nat.{ℕ, _+_, min}
 use mathlib.Core.Bool.{Bool, true, false, cond, not, _&&_, _||_}
 use lib.Dec.{ltb, leb, eqb}
-use Rattle.charger.specs.declared.Asked.{Asked}
-use Rattle.charger.specs.declared.Charger.{Charger}
-use Rattle.charger.specs.declared.Sampled.{Sampled}
+use Rattle.charger_state.specs.declared.Asked.{Asked}
+use Rattle.charger_state.specs.declared.Charger.{Charger}
+use Rattle.charger_state.specs.declared.Sampled.{Sampled}
 use Rattle.clock.specs.Sample.{elapsedOf}
 use Rattle.pack.specs.Kept.{latestOf}
 use Rattle.pack.specs.declared.Latest.{Latest}

@@ -1,8 +1,8 @@
--- `charger::set_up` meets its contract.
+-- `charger_state::set_up` meets its contract.
 -- Assumes nothing.
 use borrow.Author.Needs.{needs}
-use Rattle.charger.proofs.set_up.Statement.{statement}
-use Rattle.charger.proofs.set_up.Tie as tie
+use Rattle.charger_state.proofs.set_up.Statement.{statement}
+use Rattle.charger_state.proofs.set_up.Tie as tie
 
 returns : tie.Need-returns
 returns c = simp (c .not-yet2 .ensures, c .before .not-yet .ensures, c .before .before .latest-of .ensures)

@@ -1,10 +1,10 @@
--- `charger::mode_written` meets its contract: POR_RESET, or the other bits.
+-- `charger_written::mode_written` meets its contract: POR_RESET, or the other bits.
 -- Assumes nothing.
 use mathlib.Core.Path.{sym, _∙_}
 use borrow.Author.Needs.{needs}
-use Rattle.charger.specs.Written.{modeWritten}
-use Rattle.charger.proofs.mode_written.Statement.{statement}
-use Rattle.charger.proofs.mode_written.Tie as tie
+use Rattle.charger_written.specs.Written.{modeWritten}
+use Rattle.charger_written.proofs.mode_written.Statement.{statement}
+use Rattle.charger_written.proofs.mode_written.Tie as tie
 
 returns : tie.Need-returns
 unfolding modeWritten

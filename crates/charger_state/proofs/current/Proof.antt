@@ -1,8 +1,8 @@
--- `charger::current` meets its contract.
+-- `charger_state::current` meets its contract.
 -- Assumes nothing.
-use Rattle.charger.specs.Charger.{currentOf}
-use Rattle.charger.proofs.current.Statement.{statement}
-use Rattle.charger.proofs.current.Tie as tie
+use Rattle.charger_state.specs.Charger.{currentOf}
+use Rattle.charger_state.proofs.current.Statement.{statement}
+use Rattle.charger_state.proofs.current.Tie as tie
 
 returns : tie.Need-returns
 unfolding currentOf

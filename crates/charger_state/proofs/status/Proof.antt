@@ -1,10 +1,10 @@
--- `charger::status` meets its contract: bit by bit.
+-- `charger_state::status` meets its contract: bit by bit.
 -- Assumes nothing.
 use native.Mathlib.Omega.{arith}
 use borrow.Author.Needs.{needs}
-use Rattle.charger.specs.Charger.{statusOf}
-use Rattle.charger.proofs.status.Statement.{statement}
-use Rattle.charger.proofs.status.Tie as tie
+use Rattle.charger_state.specs.Charger.{statusOf}
+use Rattle.charger_state.proofs.status.Statement.{statement}
+use Rattle.charger_state.proofs.status.Tie as tie
 
 returns : tie.Need-returns
 unfolding statusOf
