@@ -85,7 +85,7 @@ ReadKeeps = (s : Charger) (c : Call) → c .read ≡ true → result s c .state 
 abbrev pub IdleKeeps : Type 0
 IdleKeeps = (s : Charger) (c : Call) → (c .read ≡ true) ⊎ (served (answer s c) ≡ false) → result s c .state ≡ s
 
--- so do reads, refused calls and refused samples: struck out of any events, any choice of them, they leave the state and the time, and every event that stays gives the same (R-11)
+-- so do reads, refused calls and refused samples: struck out of any events, any choice of them, they leave the state and the time, and every event that stays gives the same (RULES 16.6)
 abbrev pub ChatterIsIdle : Type 0
 ChatterIsIdle =
     (s : Charger) (es fs : List Event) (r : Struck chargerParty s es fs) → Unmoved chargerParty s s es fs r × (timeOf s es ≡ timeOf s fs)

@@ -12,7 +12,7 @@ pub record Party (S E : Type 0) : Type 1 where
   pub Same : S → S → Type 0
   pub Gives : S → S → E → Type 0
 
--- the second history is the first with some idle events struck out, each idle where it stands in the first
+-- the second history is the first with some idle events struck out, each idle where it stands in the first (RULES 16.1)
 pub data Struck {S E : Type 0} (p : Party S E) : S → List E → List E → Type 0 where
   none : {s : S} → Struck p s [] []
   stays : {s : S} {e : E} {es fs : List E} → Struck p (p .step s e) es fs → Struck p s (e ∷ es) (e ∷ fs)
@@ -24,7 +24,7 @@ strike p [] s es = es
 strike p (b ∷ bs) s [] = []
 strike p (b ∷ bs) s (e ∷ es) = cond (b && p .idle s e) [] (e ∷ []) ++ strike p bs (p .step s e) es
 
--- every event that stays gives the same in the full history and, from the state t on, in the struck one, and is idle in the one exactly where it is in the other
+-- every event that stays gives the same in the full history and, from the state t on, in the struck one, and is idle in the one exactly where it is in the other (RULES 16.4)
 abbrev pub Each : {S E : Type 0} (p : Party S E) {s : S} {es fs : List E} → Struck p s es fs → S → Type 0
 Each p none t = Unit {0}
 Each p (stays {s = s} {e = e} r) t = p .Gives s t e × (p .idle s e ≡ p .idle t e) × Each p r (p .step t e)

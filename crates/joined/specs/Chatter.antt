@@ -36,13 +36,13 @@ SameHappening j k (asks c) =
 abbrev pub jointParty : Party Joint Happening
 jointParty = record { step = happen; idle = isIdleOnBus; Same = SameJoint; Gives = SameHappening }
 
--- from set-ups any idle happenings can be struck out: pack and charger end the same but for the pack's error code, and every happening that stays gives the same
+-- from set-ups any idle happenings can be struck out: pack and charger end the same but for the pack's error code, and every happening that stays gives the same (RULES 16.7)
 abbrev pub ChatterOnBus : Type 0
 ChatterOnBus =
     (u : Setup) (first : Sample) (hs left : List Happening) → setUpOf u first .answer ≡ 0
     → (r : Struck jointParty (fromSetUps u first) hs left) → Unmoved jointParty (fromSetUps u first) (fromSetUps u first) hs left r
 
--- so no chatter changes the current that the charger gives
+-- so no chatter changes the current that the charger gives (RULES 16.7)
 abbrev pub CurrentUndisturbed : Type 0
 CurrentUndisturbed =
     (u : Setup) (first : Sample) (hs left : List Happening) → setUpOf u first .answer ≡ 0 → Struck jointParty (fromSetUps u first) hs left

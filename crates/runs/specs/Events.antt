@@ -57,7 +57,7 @@ abbrev pub ServedWrite : State → Event → ℕ → ℕ → Type 0
 ServedWrite s (sample x n) command word = ⊥
 ServedWrite s (call c) command word = Writes c command word × (served (answer s c) ≡ true)
 
--- an idle event: a refused sample, a read or a refused call
+-- an idle event: a refused sample, a read or a refused call (RULES 16.1)
 abbrev pub isIdle : State → Event → Bool
 isIdle s (sample x n) = not (accepted s (sample x n))
 isIdle s (call c) = c .read || not (served (answer s c))

@@ -33,11 +33,11 @@ pub record PollingIsIdle (s : State) (es : List Event) : Type 0 where
   pub timers : run s es .pack .timers ≡ run s (unpolled es) .pack .timers
   pub registers : SameRegisters (run s (unpolled es)) (run s es)
 
--- so over any history since a served set-up
+-- so over any history since a served set-up (RULES 16.5)
 abbrev pub PollingDisturbsNothing : Type 0
 PollingDisturbsNothing = (u : Setup) (first : Sample) (es : List Event) → setUpOf u first .answer ≡ 0 → PollingIsIdle (fromSetUp u first) es
 
--- which calls are the second app's is any choice: struck out, they leave all that the first one sees as it was
+-- which calls are the second app's is any choice: struck out, they leave all that the first one sees as it was (RULES 16.5)
 abbrev pub AppsDontMeet : Type 0
 AppsDontMeet =
     (u : Setup) (first : Sample) (es : List Event) (second : List Bool) → setUpOf u first .answer ≡ 0

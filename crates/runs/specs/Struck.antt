@@ -20,7 +20,7 @@ pub record SameBut (s t : State) : Type 0 where
   pub sound-first : soundOf s ≡ true
   pub sound-second : soundOf t ≡ true
 
--- the same reply but for the low four bits of BatteryStatus and the PEC that follows them
+-- the same reply but for the low four bits of BatteryStatus and the PEC that follows them (RULES 16.4)
 pub record SameReply (s t : State) (c : Call) : Type 0 where
   pub other : (Reads c 0x16 → ⊥) → reply s c ≡ reply t c
   pub status : Reads c 0x16 → served (answer s c) ≡ true
@@ -56,7 +56,7 @@ abbrev pub packParty : Party State Event
 packParty = record { step = step; idle = isIdle; Same = SameBut; Gives = Same }
 
 -- the full history from s and the struck one from t: the end is the same but for the error code, and every event that stays gives the same;
--- the broadcasts are the same bytes, sample by sample, the same samples are accepted, and the same time elapses, sample by sample
+-- the broadcasts are the same bytes, sample by sample, the same samples are accepted, and the same time elapses, sample by sample (RULES 16.2 to 16.4)
 pub record Undisturbed (s t : State) (es fs : List Event) (r : Struck packParty s es fs) : Type 0 where
   pub unmoved : Unmoved packParty s t es fs r
   pub broadcast : broadcasts s es ≡ broadcasts t fs

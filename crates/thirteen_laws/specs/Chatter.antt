@@ -47,7 +47,7 @@ thirteenParty =
       Gives = λ s t e. (answerTo s e ≡ answerTo t e) × (replyTo s e ≡ replyTo t e);
     }
 
--- since a served set-up any of its idle events can be struck out: the end is the same but for the error code, and every event that stays gives the same
+-- since a served set-up any of its idle events can be struck out: the end is the same but for the error code, and every event that stays gives the same (RULES 16.6)
 abbrev pub ChatterIsIdle : Type 0
 ChatterIsIdle =
     (u : Setup) (health : ℕ) (first : Sample) (cells : List ℕ) (es fs : List Event) → setUpOf u health first cells .answer ≡ 0
