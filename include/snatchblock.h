@@ -323,6 +323,9 @@ static inline size_t snatchblock_message_length(const uint8_t area[SNATCHBLOCK_A
  * Two sheets hold the names that block reads (20 to 23) show; the service sheet goes before the factory sheet. For no
  * names lend the one byte 00, a sheet too. No bytes are no sheet: every block read is then answered 9.
  *
+ * Hosts may poll as they like: a read and a refused call change nothing but the error code. Leave any of them out, and
+ * every alarm, every count and every other reply is as it was, but for the low four bits of BatteryStatus and its PEC.
+ *
  * Whenever the bus comes on the specification wants BatteryMode at 0: hand over the write 16 03 00 00 then.
  */
 uint32_t snatchblock_transact(uint8_t *area, size_t area_length, const uint8_t *service, size_t service_length,

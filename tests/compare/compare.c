@@ -5,133 +5,22 @@
  * refused call, a room behind what was written, with what stood there before. Bytes that are lent for reading
  * end at a page that can't be read. Status 0 only if nothing differs and, from LEAST calls on, every class came up. */
 #define _DEFAULT_SOURCE
-#include "snatchblock.h"
-#include "../../second/snatchblock2.h"
+#include "given.h"
+#include "proved.h"
+#include "tally.h"
 
-#include <signal.h>
-#include <stdio.h>
-#include <stdlib.h>
-#include <string.h>
-#include <sys/mman.h>
 #include <unistd.h>
 
-enum { LEAST = 1000000, USUAL = 2000000, GUARD = 16, AREA_MOST = 660, ROOM_MOST = 200, PAGE = 4096, LENT_PAGES = 4 };
+enum { LEAST = 1000000, USUAL = 2000000 };
 enum { VERSION_1 = 186, VERSION_2 = 312, VERSION_3 = 329 }; /* the bytes of an area in the versions before */
 
 static uint64_t seed, calls, wanted_calls;
 
-/* ---- random numbers: xorshift64* */
-
-static uint64_t random_state;
-
-static uint64_t draw(void)
-{
-    random_state ^= random_state >> 12;
-    random_state ^= random_state << 25;
-    random_state ^= random_state >> 27;
-    return random_state * 0x2545F4914F6CDD1Du;
-}
-
-static uint32_t below(uint32_t limit)
-{
-    return (uint32_t)((draw() >> 32) * limit >> 32);
-}
-
-static bool one_in(uint32_t n)
-{
-    return below(n) == 0;
-}
-
-static uint16_t some_word(void)
-{
-    static const uint16_t edges[] = {0, 1, 2, 10, 100, 0x7FFE, 0x7FFF, 0x8000, 0x8001, 0xFFFE, 0xFFFF};
-    switch (below(4)) {
-    case 0: return edges[below(sizeof edges / sizeof *edges)];
-    case 1: return (uint16_t)below(200);
-    case 2: return (uint16_t)below(20000);
-    default: return (uint16_t)draw();
-    }
-}
-
-static int16_t some_current(void)
-{
-    int32_t word = some_word();
-    return (int16_t)(word < 0x8000 ? word : word - 0x10000);
-}
-
-static void fill(uint8_t *at, size_t length)
-{
-    for (size_t i = 0; i < length; i++)
-        at[i] = (uint8_t)(draw() >> 56);
-}
-
-/* ---- lent memory */
-
-/* Bytes lent for reading: they end where a page begins that can't be read. */
-struct lent {
-    uint8_t *end;
-    uint8_t copy[LENT_PAGES * PAGE];
-    struct sb2_bytes bytes;
-};
-enum { SLICES = 4 };
-static struct lent lent[SLICES];
-
-static void make_lent(void)
-{
-    for (int i = 0; i < SLICES; i++) {
-        uint8_t *at = mmap(NULL, (LENT_PAGES + 1) * PAGE, PROT_READ | PROT_WRITE, MAP_PRIVATE | MAP_ANONYMOUS, -1, 0);
-        if (at == MAP_FAILED || mprotect(at + LENT_PAGES * PAGE, PAGE, PROT_NONE) != 0) {
-            perror("compare");
-            exit(2);
-        }
-        lent[i].end = at + LENT_PAGES * PAGE;
-    }
-}
-
-static struct sb2_bytes lend(int slot, const uint8_t *at, size_t length)
-{
-    struct lent *l = &lent[slot];
-    memcpy(l->end - length, at, length);
-    memcpy(l->copy, at, length);
-    l->bytes = (struct sb2_bytes){l->end - length, length};
-    return l->bytes;
-}
-
-/* Lent for writing, once for each program, with guard bytes around. */
-struct both {
-    uint8_t proved[2 * GUARD + AREA_MOST];
-    uint8_t second[2 * GUARD + AREA_MOST];
-    uint8_t before[2 * GUARD + AREA_MOST];
-    size_t length;
-    uint8_t *p;
-    uint8_t *s;
-};
 static struct both area, room;
-
-static void lend_both(struct both *b, size_t length)
-{
-    size_t shift = below(8);
-    b->length = length;
-    b->p = b->proved + GUARD - shift;
-    b->s = b->second + GUARD - shift;
-    memcpy(b->before, b->second, sizeof b->before);
-}
 
 static void lend_room(size_t length)
 {
-    memset(room.second, (int)below(256), sizeof room.second);
-    memcpy(room.proved, room.second, sizeof room.second);
-    lend_both(&room, length);
-}
-
-/* Memory with the given content; `length` bytes of it are lent. */
-static void lend_with(struct both *b, const uint8_t *content, size_t length)
-{
-    memset(b->second, (int)below(256), sizeof b->second);
-    lend_both(b, length);
-    memcpy(b->s, content, length);
-    memcpy(b->proved, b->second, sizeof b->second);
-    memcpy(b->before, b->second, sizeof b->before);
+    lend_blank(&room, length);
 }
 
 static void lend_area(const uint8_t *content, size_t length)
@@ -175,14 +64,6 @@ static void note(uint64_t number)
     call.number[call.numbers++] = number;
 }
 
-static void show(const char *name, const uint8_t *at, size_t length)
-{
-    printf("  %-14s %5zu: ", name, length);
-    for (size_t i = 0; i < length; i++)
-        printf("%02x", at[i]);
-    printf("\n");
-}
-
 static void report(void)
 {
     printf("seed %llu: the first %llu calls show it, no shorter prefix does (compare %llu %llu)\n",
@@ -211,14 +92,6 @@ static void stopped(int number)
     report();
     fflush(stdout);
     _exit(1);
-}
-
-/* Whether all but the first bytes of what is lent, guards too, are as they were. */
-static bool stays_behind(const struct both *b, size_t first)
-{
-    size_t from = (size_t)(b->p - b->proved);
-    size_t to = from + (first < b->length ? first : b->length);
-    return memcmp(b->proved, b->before, from) == 0 && memcmp(b->proved + to, b->before + to, sizeof b->before - to) == 0;
 }
 
 /* The bytes of the area that document 01 lets an answer change: past 3 the error code alone, of 10 too, for a read; the
@@ -255,9 +128,8 @@ static void compare(uint64_t proved, uint64_t second)
         what = "area where it stays";
     else if (call.with_room && !stays_behind(&room, room_may_change(proved)))
         what = "room where it stays";
-    for (size_t i = 0; i < call.slices; i++)
-        if (memcmp(lent[i].bytes.at, lent[i].copy, lent[i].bytes.length) != 0)
-            what = "bytes lent for reading";
+    if (!lent_stay(call.slices))
+        what = "bytes lent for reading";
     if (what == NULL)
         return;
     printf("DIFFERENCE: %s of %s: proved %llx, second %llx\n", what, call.entry, (unsigned long long)proved,
@@ -385,11 +257,6 @@ static int answered;                  /* to the latest message */
 static uint8_t service[145], factory[145];
 static size_t service_length, factory_length;
 
-static struct sb2_bytes bytes_of(const uint8_t *at, size_t length)
-{
-    return (struct sb2_bytes){at, length};
-}
-
 /* Mostly the right size; at times another, those of versions 1 to 3 among them. */
 static const size_t old_sizes[3] = {VERSION_1, VERSION_2, VERSION_3};
 static size_t area_size(void)
@@ -430,17 +297,6 @@ static uint64_t wide_at(size_t at)
     return (uint64_t)number_at(at + 4, 4) << 32 | number_at(at, 4);
 }
 
-static size_t room_size(size_t least)
-{
-    switch (below(20)) {
-    case 0: return least - 1;
-    case 1: return below(ROOM_MOST + 1);
-    case 2: return below((uint32_t)least);
-    case 3: return least + below(8);
-    default: return least;
-    }
-}
-
 /* A room for broadcasts: mostly what the pack's choice asks for, else about both borders, or any. */
 static size_t sample_room(void)
 {
@@ -459,26 +315,6 @@ static void keep_area(void)
         memcpy(state_area, area.s, SNATCHBLOCK_AREA);
 }
 
-/* What set-up may be given; likely, what it serves. */
-static struct sb2_set_up some_set_up(bool likely)
-{
-    struct sb2_set_up in = {
-        .design_capacity = some_word(), .full_capacity = some_word(), .remaining_capacity = some_word(),
-        .design_voltage = some_word(), .max_error = some_word(), .cycle_count = some_word(),
-        .manufacture_date = some_word(), .serial_number = some_word(), .charging_current = some_word(),
-        .charging_voltage = some_word(), .temperature_limit = some_word(), .discharge_limit = some_word(),
-        .plain = one_in(2), .first = {some_word(), some_current(), some_word(), (uint32_t)draw()}};
-    if (likely) {
-        in.design_capacity |= 1;
-        in.full_capacity |= 1;
-        in.design_voltage = (uint16_t)(1 + below(one_in(2) ? 65535 : 20000));
-        in.remaining_capacity = one_in(4) ? 0 : one_in(4) ? in.full_capacity : (uint16_t)below(in.full_capacity + 1u);
-    }
-    if (one_in(4))
-        in.first.counter = 0xFFFFFFFFu - below(100000);
-    return in;
-}
-
 static void play_given_set_up(struct sb2_set_up in, size_t length)
 {
     fill(state_area, length);
@@ -489,11 +325,7 @@ static void play_given_set_up(struct sb2_set_up in, size_t length)
     note(in.charging_current), note(in.charging_voltage), note(in.temperature_limit), note(in.discharge_limit);
     note(in.plain), note(in.first.voltage), note((uint16_t)in.first.current), note(in.first.temperature);
     note(in.first.counter);
-    uint32_t proved = snatchblock_set_up(area.p, length, in.design_capacity, in.full_capacity, in.remaining_capacity,
-                                         in.design_voltage, in.max_error, in.cycle_count, in.manufacture_date,
-                                         in.serial_number, in.charging_current, in.charging_voltage,
-                                         in.temperature_limit, in.discharge_limit, in.plain, in.first.voltage,
-                                         in.first.current, in.first.temperature, in.first.counter);
+    uint32_t proved = proved_set_up(area.p, length, &in);
     uint32_t second = (uint32_t)sb2_area_set_up(area.s, length, &in);
     compare(proved, second);
     came_up(SET_UP, second);
@@ -520,19 +352,6 @@ static void play_sound(size_t length)
     bool second = sb2_area_sound(bytes_of(area.s, length));
     compare(proved, second);
     came_up(SOUND, second);
-}
-
-static uint32_t some_elapsed(void)
-{
-    static const uint32_t edges[] = {0,     1,     999,   1000,  1001,  9999,  10000, 10001,
-                                     29999, 30000, 30001, 59999, 60000, 60001, 61000, 0xFFFFFFFF};
-    switch (below(8)) {
-    case 0: return edges[below(sizeof edges / sizeof *edges)];
-    case 1: return (uint32_t)draw();
-    case 2: return below(100000);
-    case 3: return below(20) * 1000;
-    default: return 1000;
-    }
 }
 
 /* What bit 4 was before a served sample, and which of its three rules the charge after it falls under. */
@@ -667,8 +486,7 @@ static bool play_given_sample(struct sb2_sample sample, size_t length, size_t ro
     begin("sample", 0, WRITES_AREA, true);
     note(sample.voltage), note((uint16_t)sample.current), note(sample.temperature), note(sample.counter);
     size_t sent;
-    uint32_t proved = snatchblock_sample(area.p, length, sample.voltage, sample.current, sample.temperature,
-                                         sample.counter, room.p, room.length);
+    uint32_t proved = proved_sample(area.p, length, &sample, room.p, room.length);
     int answer = sb2_area_take_sample(area.s, length, &sample, room.s, room.length, &sent);
     compare(proved, (uint32_t)answer | (uint32_t)sent << 8);
     came_up(SAMPLE, (uint32_t)answer);
@@ -704,54 +522,6 @@ static struct sb2_sample some_sample(void)
 static void play_sample(bool whole)
 {
     (void)play_given_sample(some_sample(), whole ? SNATCHBLOCK_AREA : area_size(), sample_room());
-}
-
-static uint8_t some_command(void)
-{
-    switch (below(16)) {
-    case 0: return (uint8_t)draw();
-    case 1: return (uint8_t)below(64);
-    case 2: return (uint8_t)(0x3C + below(4));
-    case 3: case 4: return (uint8_t)(0x20 + below(5));
-    case 5: return 0x03;
-    default: return (uint8_t)below(0x1D);
-    }
-}
-
-/* A message with its mark, right or damaged; gives its length. */
-static size_t some_message(uint8_t at[64], bool *read)
-{
-    size_t length = 3;
-    at[0] = 0x16;
-    at[1] = some_command();
-    at[2] = 0x17;
-    *read = true;
-    if (one_in(2)) {
-        uint16_t word = some_word();
-        if (one_in(4)) {
-            at[1] = 0x03;
-            word = (uint16_t)(below(8) << 13);
-        } else if (!one_in(8)) {
-            at[1] = (uint8_t)below(5);
-        }
-        at[2] = (uint8_t)(word & 0xFF);
-        at[3] = (uint8_t)(word >> 8);
-        *read = false;
-        length = 4;
-        if (one_in(2)) {
-            at[4] = sb2_pec(bytes_of(at, 4));
-            length = 5;
-        }
-    }
-    switch (below(24)) {
-    case 0: at[below((uint32_t)length)] ^= (uint8_t)(1u << below(8)); break;
-    case 1: *read = !*read; break;
-    case 2: length = below((uint32_t)length); break;
-    case 3: fill(at + length, 40), length += below(36); break;
-    case 4: fill(at, 64), length = below(65); break;
-    default: break;
-    }
-    return length;
 }
 
 /* ---- times: 06, 11, 12, 13, and 05, which stands last for it has no minutes in power mode */
@@ -939,13 +709,6 @@ static size_t play_write_sheet(bool likely)
         bodies[i].bytes = bytes_of(body[i], length);
     }
     return play_write_bodies(bodies, likely ? SB2_SHEET_ROOM : room_size(SB2_SHEET_ROOM));
-}
-
-/* Moves one byte of one row, or the count of rows, by one. */
-static void bend_sheet(uint8_t at[145])
-{
-    size_t place = one_in(6) ? 0 : 1 + 4 * below(at[0] ? at[0] : 1) + below(4);
-    at[place] = (uint8_t)(at[place] + (one_in(2) ? 1 : -1));
 }
 
 /* A sheet, mostly good, put at `at`; gives its length. */
@@ -2611,8 +2374,7 @@ static void play_charger_set_up(struct sb2_sample first, size_t length)
     lend_area(charger_area, length);
     begin("charger_set_up", 0, WRITES_SERVED, false);
     note_sample(first);
-    uint32_t proved = snatchblock_charger_set_up(area.p, length, first.voltage, first.current, first.temperature,
-                                                 first.counter);
+    uint32_t proved = proved_charger_set_up(area.p, length, &first);
     uint32_t second = (uint32_t)sb2_area_charger_set_up(area.s, length, &first);
     compare(proved, second);
     came_up(CHARGER_SET_UP, second);
@@ -2681,8 +2443,7 @@ static void play_charger_sample(struct sb2_sample sample, size_t length)
     lend_area(charger_area, length);
     begin("charger_sample", 0, WRITES_SERVED, false);
     note_sample(sample);
-    uint32_t proved = snatchblock_charger_sample(area.p, length, sample.voltage, sample.current, sample.temperature,
-                                                 sample.counter);
+    uint32_t proved = proved_charger_sample(area.p, length, &sample);
     uint32_t second = (uint32_t)sb2_area_charger_sample(area.s, length, &sample);
     compare(proved, second);
     came_up(CHARGER_SAMPLE, second);
@@ -2827,68 +2588,9 @@ static void play_charger_read(uint8_t command)
 
 static void play_charger_write(uint8_t command, uint16_t word)
 {
-    uint8_t message[5] = {0x12, command, (uint8_t)(word & 0xFF), (uint8_t)(word >> 8)};
-    message[4] = sb2_pec(bytes_of(message, 4));
+    uint8_t message[5];
+    put_write(message, 0x12, command, word);
     (void)play_charger_message(message, 4 + below(2), false, SB2_CHARGER_AREA, SB2_CHARGER_ROOM);
-}
-
-/* A word that a command can be given: every bit of 12 and 16 alone, with others, and not at all. */
-static uint16_t charger_word(uint8_t command)
-{
-    if (command == 0x12)
-        return (uint16_t)(below(16) | (one_in(4) ? draw() << 4 : 0));
-    if (command == 0x16)
-        return (uint16_t)(one_in(3) ? 1u << below(16) : one_in(3) ? below(0x1000) : draw());
-    return one_in(6) ? 0 : some_word();
-}
-
-/* One to three altered bits of a message that has so many bytes. */
-static void alter(uint8_t *message, size_t length, uint32_t bits)
-{
-    uint8_t was[AREA_MOST];
-    memcpy(was, message, length);
-    while (bits > 0) {
-        uint32_t place = below(8 * (uint32_t)length);
-        uint8_t mask = (uint8_t)(1u << place % 8);
-        if ((message[place / 8] ^ was[place / 8]) & mask)
-            continue; /* altered already */
-        message[place / 8] ^= mask;
-        bits--;
-    }
-}
-
-/* A message with its mark, right or damaged; gives its length. */
-static size_t some_charger_message(uint8_t at[64], bool *read)
-{
-    static const uint8_t addresses[] = {0x10, 0x13, 0x16, 0x17};
-    uint8_t command = (uint8_t)(one_in(8) ? draw() : 0x11 + below(6));
-    uint16_t word = charger_word(command);
-    size_t length = 3;
-    *read = command == 0x11 || command == 0x13 ? !one_in(4) : command > 0x16 || command < 0x11 ? one_in(2) : one_in(6);
-    at[0] = 0x12;
-    at[1] = command;
-    at[2] = *read ? 0x13 : (uint8_t)(word & 0xFF);
-    at[3] = (uint8_t)(word >> 8);
-    if (!*read) {
-        at[4] = sb2_pec(bytes_of(at, 4));
-        length = 4 + below(2);
-    }
-    switch (below(24)) {
-    case 0: alter(at, length, 1 + below(3)); break;
-    case 1: *read = !*read; break;
-    case 2: length = below((uint32_t)length); break;
-    case 3: fill(at + length, 40), length += below(36); break;
-    case 4: fill(at, 64), length = below(65); break;
-    case 5: at[0] = one_in(4) ? (uint8_t)draw() : addresses[below(4)]; break;
-    case 6: at[length - 1] = (uint8_t)draw(); break;
-    default: break;
-    }
-    return length;
-}
-
-static size_t charger_room(void)
-{
-    return one_in(12) ? below(6) : one_in(12) ? below(ROOM_MOST + 1) : SB2_CHARGER_ROOM;
 }
 
 static void play_charger_transact(size_t length)
@@ -2990,9 +2692,7 @@ static void play_charger_altered(void)
     uint8_t command = (uint8_t)(one_in(4) ? 0x12 : 0x14 + below(3)), message[5];
     uint16_t word = charger_word(command);
     for (uint32_t bits = 0; bits <= 3; bits++) {
-        const uint8_t four[4] = {0x12, command, (uint8_t)(word & 0xFF), (uint8_t)(word >> 8)};
-        memcpy(message, four, 4);
-        message[4] = sb2_pec(bytes_of(four, 4));
+        put_write(message, 0x12, command, word);
         alter(message, 5, bits);
         int answer = play_charger_message(message, 5, false, SB2_CHARGER_AREA, SB2_CHARGER_ROOM);
         compare(answer != SB2_SERVED, bits > 0);
@@ -3148,10 +2848,7 @@ static void play_charger(void)
 /* Where its area keeps what. */
 enum { T_DESIGN_AT = 1, T_DESIGN_VOLTAGE_AT = 3, T_HEALTH_AT = 5, T_LATEST_AT = 7, T_COUNTER_AT = 13, T_CELLS_AT = 17,
        T_CHARGE_AT = 43, T_FULL_AT = 51, T_FLAG_AT = 53, T_TOTALS_AT = 54, T_KEPT_AT = 294, T_BEGUN_MS_AT = 295,
-       T_BEGUN_AT = 297, CELL_BYTES = 2 * SB2_CELLS };
-static const uint8_t thirteen_served[22] = {0x08, 0x09, 0x0A, 0x0D, 0x11, 0x13, 0x16, 0x31, 0x32, 0x33, 0x34,
-                                            0x35, 0x36, 0x37, 0x38, 0x39, 0x3A, 0x3B, 0x3C, 0x3D, 0x4F, 0xF1};
-static const uint8_t thirteen_not_built[6] = {0x00, 0x80, 0x81, 0xA0, 0xA1, 0xA2};
+       T_BEGUN_AT = 297 };
 static uint8_t thirteen_area[AREA_MOST]; /* between calls */
 
 static struct sb2_bytes thirteen_bytes(void)
@@ -3208,20 +2905,6 @@ static void note_thirteen_size(unsigned entry, size_t length)
         other[T_LENGTH + 5 * entry + class]++;
 }
 
-/* Voltages of the cells, at borders too. */
-static void some_cells(uint16_t cells[SB2_CELLS])
-{
-    for (size_t i = 0; i < SB2_CELLS; i++)
-        cells[i] = one_in(2) ? (uint16_t)(3000 + below(1201)) : some_word();
-}
-
-/* They are lent for reading, and end where a page begins that can't be read. */
-static const uint16_t *lend_cells(const uint16_t cells[SB2_CELLS])
-{
-    const void *at = lend(0, (const uint8_t *)cells, CELL_BYTES).at;
-    return at;
-}
-
 /* Why a set-up was refused, where one reason alone stands; or which charge it began with. */
 static void note_thirteen_set_up(const struct sb2_thirteen_set_up *in, uint32_t answer)
 {
@@ -3251,10 +2934,7 @@ static void play_thirteen_set_up(const struct sb2_thirteen_set_up *in, size_t le
     begin("thirteen_set_up (cells)", 1, WRITES_AREA, false);
     note(in->design_capacity), note(in->full_capacity), note(in->remaining_capacity), note(in->design_voltage);
     note(in->state_of_health), note_sample(in->first);
-    uint32_t proved = snatchblock_thirteen_set_up(area.p, length, in->design_capacity, in->full_capacity,
-                                                  in->remaining_capacity, in->design_voltage, in->state_of_health,
-                                                  in->first.voltage, in->first.current, in->first.temperature,
-                                                  in->first.counter, cells);
+    uint32_t proved = proved_thirteen_set_up(area.p, length, in, cells);
     uint32_t second = (uint32_t)sb2_area_thirteen_set_up(area.s, length, in);
     compare(proved, second);
     came_up(THIRTEEN_SET_UP, second);
@@ -3316,8 +2996,7 @@ static void play_thirteen_sample(struct sb2_sample sample, const uint16_t cells[
     const uint16_t *measured = lend_cells(cells);
     begin("thirteen_sample (cells)", 1, WRITES_AREA, false);
     note_sample(sample);
-    uint32_t proved = snatchblock_thirteen_sample(area.p, length, sample.voltage, sample.current, sample.temperature,
-                                                  sample.counter, measured);
+    uint32_t proved = proved_thirteen_sample(area.p, length, &sample, measured);
     uint32_t second = (uint32_t)sb2_area_thirteen_sample(area.s, length, &sample, measured);
     compare(proved, second);
     came_up(THIRTEEN_SAMPLE, second);
@@ -3329,21 +3008,6 @@ static void play_thirteen_sample(struct sb2_sample sample, const uint16_t cells[
         other[T_WRAP] += sample.counter < before;
     }
     keep_thirteen();
-}
-
-/* What is measured: any, or about the limits that the status looks at. */
-static struct sb2_sample thirteen_measured(uint32_t counter)
-{
-    static const uint16_t voltages[] = {39000, 51001, 54800}, temperatures[] = {2731, 3231, 3331};
-    static const int16_t currents[] = {-15000, -9, -1, 0, 1, 9, 99, 2000};
-    struct sb2_sample sample = {some_word(), some_current(), some_word(), counter};
-    if (!one_in(4))
-        sample.voltage = one_in(2) ? (uint16_t)(voltages[below(3)] - 1 + below(3)) : (uint16_t)(39000 + below(16000));
-    if (one_in(2))
-        sample.current = (int16_t)(currents[below(8)] - 1 + (int32_t)below(3));
-    if (!one_in(4))
-        sample.temperature = one_in(2) ? (uint16_t)(temperatures[below(3)] + below(2)) : (uint16_t)(2700 + below(700));
-    return sample;
 }
 
 static void play_thirteen_time(size_t length)
@@ -3579,44 +3243,6 @@ static void play_thirteen_read(uint8_t command)
     (void)play_thirteen_message(ask, 3, true, SB2_THIRTEEN_AREA, SB2_REPLY_ROOM);
 }
 
-static void put_write(uint8_t message[5], uint8_t command, uint16_t word)
-{
-    const uint8_t four[4] = {0x16, command, (uint8_t)(word & 0xFF), (uint8_t)(word >> 8)};
-    memcpy(message, four, 4);
-    message[4] = sb2_pec(bytes_of(four, 4));
-}
-
-static uint8_t thirteen_command(void)
-{
-    if (one_in(6))
-        return (uint8_t)draw();
-    return one_in(5) ? thirteen_not_built[below(6)] : thirteen_served[below(22)];
-}
-
-/* A message with its mark, right or damaged; gives its length. */
-static size_t some_thirteen_message(uint8_t at[64], bool *read)
-{
-    static const uint8_t addresses[] = {0x12, 0x17, 0x14, 0x10};
-    size_t length = 3;
-    *read = !one_in(4);
-    put_write(at, thirteen_command(), some_word());
-    if (*read)
-        at[2] = 0x17;
-    else
-        length = one_in(4) ? 4 : 5;
-    switch (below(24)) {
-    case 0: alter(at, length, 1 + below(3)); break;
-    case 1: *read = !*read; break;
-    case 2: length = below((uint32_t)length); break;
-    case 3: fill(at + length, 40), length += below(36); break;
-    case 4: fill(at, 64), length = below(65); break;
-    case 5: at[0] = one_in(4) ? (uint8_t)draw() : addresses[below(4)]; break;
-    case 6: at[length - 1] = (uint8_t)draw(); break;
-    default: break;
-    }
-    return length;
-}
-
 static void play_thirteen_transact(size_t length)
 {
     uint8_t message[64];
@@ -3627,23 +3253,6 @@ static void play_thirteen_transact(size_t length)
 }
 
 /* ---- its life */
-
-/* What set-up may be given; likely, what it serves. */
-static struct sb2_thirteen_set_up some_thirteen_set_up(bool likely)
-{
-    struct sb2_thirteen_set_up in = {.design_capacity = some_word(), .full_capacity = some_word(),
-                                     .remaining_capacity = some_word(), .design_voltage = some_word(),
-                                     .state_of_health = one_in(2) ? (uint16_t)below(101) : some_word()};
-    in.first = thirteen_measured(one_in(4) ? 0xFFFFFFFFu - below(100000) : (uint32_t)draw());
-    some_cells(in.cells);
-    if (likely) {
-        in.design_capacity |= 1;
-        in.full_capacity |= 1;
-        in.design_voltage |= 1;
-        in.remaining_capacity = one_in(4) ? 0 : one_in(4) ? in.full_capacity : (uint16_t)below(in.full_capacity + 1u);
-    }
-    return in;
-}
 
 static void play_likely_thirteen(void)
 {
@@ -3792,7 +3401,7 @@ static void play_thirteen_commands(void)
     static uint8_t next;
     for (int i = 0; i < 8; i++, next++) {
         uint8_t message[5];
-        put_write(message, next, some_word());
+        put_write(message, 0x16, next, some_word());
         play_thirteen_read(next);
         int answer = play_thirteen_message(message, 5, false, SB2_THIRTEEN_AREA, SB2_REPLY_ROOM);
         int row = thirteen_row(next);
@@ -3811,7 +3420,7 @@ static void play_thirteen_rooms(void)
     for (size_t room_length = 0; room_length <= 40; room_length++) {
         const uint8_t command = one_in(2) ? 0xF1 : thirteen_command(), ask[3] = {0x16, command, 0x17};
         uint8_t message[5];
-        put_write(message, thirteen_command(), some_word());
+        put_write(message, 0x16, thirteen_command(), some_word());
         int answer = play_thirteen_message(ask, 3, true, SB2_THIRTEEN_AREA, room_length);
         expect((answer == SB2_SMALL_ROOM) == (room_length < SB2_REPLY_ROOM), "2");
         (void)play_thirteen_message(message, 4 + below(2), false, SB2_THIRTEEN_AREA, room_length);
@@ -3824,7 +3433,7 @@ static void play_thirteen_altered(void)
     uint8_t command = thirteen_command(), message[5];
     uint16_t word = some_word();
     for (uint32_t bits = 0; bits <= 3; bits++) {
-        put_write(message, command, word);
+        put_write(message, 0x16, command, word);
         alter(message, 5, bits);
         int answer = play_thirteen_message(message, 5, false, SB2_THIRTEEN_AREA, SB2_REPLY_ROOM);
         expect((answer == SB2_NOT_FOR_PACK || answer == SB2_WRONG_PEC) == (bits > 0), "a write, altered or not");
@@ -4049,21 +3658,6 @@ static void play(void)
         for (int i = 0; i < 20; i++) play_shelf();
         break;
     }
-}
-
-static bool count_other(const char *name, size_t first, size_t last)
-{
-    uint64_t fewest = other[first], all = 0;
-    for (size_t i = first; i <= last; i++) {
-        all += other[i];
-        if (other[i] < fewest)
-            fewest = other[i];
-    }
-    printf("  %-50s %9llu", name, (unsigned long long)all);
-    if (first != last)
-        printf(", of the rarest %llu", (unsigned long long)fewest);
-    printf("%s\n", fewest == 0 ? "  NEVER" : "");
-    return fewest > 0;
 }
 
 /* Bits of the status that document 01 never sets, and the one that it never clears. */
@@ -4329,7 +3923,7 @@ static bool tally(void)
         {"30 bytes right; 1, 2, 3 bits altered, 2 127 apart", T_EXCHANGE, T_EXCHANGE + 4},
     };
     for (size_t i = 0; i < sizeof lines / sizeof *lines; i++)
-        all = count_other(lines[i].name, lines[i].first, lines[i].last) && all;
+        all = count_classes(other, lines[i].name, lines[i].first, lines[i].last) && all;
     return status_as_said() && charger_status_as_said() && thirteen_status_as_said() && all;
 }
 
@@ -4348,16 +3942,11 @@ int main(int count, char **given)
 {
     seed = count > 1 ? strtoull(given[1], NULL, 0) : 1;
     wanted_calls = count > 2 ? strtoull(given[2], NULL, 0) : USUAL;
-    random_state = seed * 0x9E3779B97F4A7C15u + 0x1234567u;
-    if (random_state == 0)
-        random_state = 1;
+    start_draw(seed);
     printf("compare: seed %llu, %llu calls\n", (unsigned long long)seed, (unsigned long long)wanted_calls);
     fflush(stdout);
     make_lent();
-    signal(SIGSEGV, stopped);
-    signal(SIGBUS, stopped);
-    signal(SIGILL, stopped);
-    signal(SIGFPE, stopped);
+    on_signals(stopped);
     service_length = factory_length = 1;
     play_edit_rooms();
     for (;;)
