@@ -1,2 +1,3 @@
 pub mod Chatter
 pub mod Idle
+pub mod Examples

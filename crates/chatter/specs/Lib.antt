@@ -1,3 +1,4 @@
 pub mod Histories
 pub mod Struck
 pub mod Promises
+pub mod Examples

@@ -1,13 +1,15 @@
 -- Request R-11 in a grower's words: two apps that poll one pack disturb no alarm, no charge, no count, and not each other.
 -- Assumes nothing.
-use mathlib.Core.Bool.{Bool, cond}
+use Prim.Native.Nat.{_%_}
+use mathlib.Core.Bool.{Bool, true, cond}
 use mathlib.Core.List.{List, [], _∷_, _++_}
 use mathlib.Core.Path.{_≡_}
 use Rattle.bus_laws.specs.Calls.{SameRegisters}
 use Rattle.chatter.specs.Struck.{Struck, strike}
+use Rattle.gauge.specs.Word.{wordOf}
 use Rattle.pack.specs.declared.Sample.{Sample}
 use Rattle.pack.specs.declared.State.{State}
-use Rattle.runs.specs.Events.{Event, sample, call, run, broadcasts, elapsedEach}
+use Rattle.runs.specs.Events.{Event, sample, call, step, run, isIdle, broadcasts, elapsedEach}
 use Rattle.runs.specs.Since.{fromSetUp}
 use Rattle.runs.specs.Struck.{packParty, Undisturbed}
 use Rattle.start.specs.SetUp.{setUpOf}
@@ -43,3 +45,10 @@ AppsDontMeet =
     (u : Setup) (first : Sample) (es : List Event) (second : List Bool) → setUpOf u first .answer ≡ 0
     → (r : Struck packParty (fromSetUp u first) es (strike packParty second (fromSetUp u first) es))
     × Undisturbed (fromSetUp u first) (fromSetUp u first) es (strike packParty second (fromSetUp u first) es) r
+
+-- the exception is needed: from every served set-up some idle call changes what the low four bits of BatteryStatus show
+abbrev pub CodeIsShared : Type 0
+CodeIsShared =
+    (u : Setup) (first : Sample) → setUpOf u first .answer ≡ 0
+    → (e : Event) × (isIdle (fromSetUp u first) e ≡ true)
+    × (wordOf (fromSetUp u first) 0x16 % 16 ≡ 0) × (wordOf (step (fromSetUp u first) e) 0x16 % 16 ≡ 6)
