@@ -22,6 +22,8 @@ static size_t heard;           /* messages of the latest broadcast */
 static uint32_t set_for, free_for; /* ms for which TERMINATE_CHARGE was set, or nothing stood against charging */
 static bool was_set, was_free;
 static unsigned stopped, flowing; /* how often each half of the promise was due */
+static bool polled;               /* hosts ask both, and are refused, between the samples */
+static uint32_t trace;            /* what was given and heard at each sample, put together */
 
 static uint32_t transact(bool read, const uint8_t *bytes, size_t length)
 {
@@ -80,10 +82,40 @@ static void watch(uint32_t ms)
     CHECK(snatchblock_sound(pack, sizeof pack) && snatchblock_charger_sound(charger, sizeof charger), true);
 }
 
+/* ---- hosts that poll */
+
+static uint64_t polls = 20261117;
+
+static uint32_t poll_below(uint32_t limit)
+{
+    polls = polls * 6364136223846793005u + 1442695040888963407u;
+    return (uint32_t)(polls >> 33) % limit;
+}
+
+/* A read, or a write whose PEC is wrong, to the pack or to the charger: nothing of either may change but the error code. */
+static void poll(void)
+{
+    uint8_t address = poll_below(2) ? 0x16 : 0x12, reply[SNATCHBLOCK_REPLY_ROOM];
+    uint8_t ask[3] = {address, (uint8_t)poll_below(0x40), address | 1};
+    uint8_t wrong[5] = {address, (uint8_t)poll_below(0x17), (uint8_t)poll_below(256), (uint8_t)poll_below(256)};
+    bool read = poll_below(3) > 0;
+    wrong[4] = snatchblock_pec(wrong, 4) ^ (uint8_t)(1 + poll_below(255));
+    const uint8_t *bytes = read ? ask : wrong;
+    size_t length = read ? sizeof ask : sizeof wrong;
+    uint32_t result = address == 0x16 ? transact(read, bytes, length)
+                                      : snatchblock_charger_transact(charger, sizeof charger, read, bytes, length, reply,
+                                                                     sizeof reply);
+    CHECK(read || snatchblock_answer_of(result) == SNATCHBLOCK_WRONG_PEC, true);
+}
+
+/* ---- time passes */
+
 /* A sample for both, so many ms on. */
 static void pass(uint32_t ms)
 {
     uint8_t sent[SNATCHBLOCK_BROADCAST_ROOM];
+    for (uint32_t left = polled ? poll_below(4) : 0; left > 0; left--)
+        poll();
     now += ms;
     const struct snatchblock_reading reading = {.voltage = 15000, .current = (int16_t)(given() - load),
                                                 .temperature = temperature, .counter = now};
@@ -94,6 +126,7 @@ static void pass(uint32_t ms)
     deliver(sent, snatchblock_length_of(result));
     if (!charger_first)
         CHECK(snatchblock_charger_sample_from(charger, sizeof charger, &reading), 0);
+    trace = trace * 31 + given() * 5 + (uint32_t)heard;
     watch(ms);
 }
 
@@ -301,6 +334,26 @@ static void any_history(bool plain)
     CHECK(stopped > was_stopped && flowing > was_flowing, true);
 }
 
+/* The same history with nobody polling and with hosts that do: both end the same but for the pack's error code. */
+static void any_chatter(bool plain)
+{
+    uint8_t pack_quiet[SNATCHBLOCK_AREA], charger_quiet[SNATCHBLOCK_CHARGER_AREA];
+    const uint64_t history = drawn;
+    trace = 0;
+    any_history(plain);
+    const uint32_t quiet = trace;
+    memcpy(pack_quiet, pack, sizeof pack);
+    memcpy(charger_quiet, charger, sizeof charger);
+    drawn = history;
+    trace = 0;
+    polled = true;
+    any_history(plain);
+    polled = false;
+    CHECK(trace, quiet);
+    CHECK(memcmp(pack_quiet + 1, pack + 1, sizeof pack - 1), 0);
+    CHECK(memcmp(charger_quiet, charger, sizeof charger), 0);
+}
+
 /* ---- what the header tells an integrator */
 
 /* Hot at rest: charger words come behind the alarm in one broadcast and undo it; TERMINATE_CHARGE stops it 10 s later,
@@ -356,7 +409,7 @@ int main(void)
         slowest(plain);
         in_turns(plain);
         way_out(plain);
-        any_history(plain);
+        any_chatter(plain);
     }
     CHECK(stopped > 1000 && flowing > 1000, true);
     return checked("joined");
