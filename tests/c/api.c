@@ -117,11 +117,7 @@ static void layout(void)
     CHECK(SNATCHBLOCK_AREA, 330);
 }
 
-static void put(size_t at, size_t bytes, uint64_t value)
-{
-    for (size_t i = 0; i < bytes; i++)
-        area[at + i] = (uint8_t)(value >> 8 * i);
-}
+#include "fields.h"
 
 /* A field of a sound area at a value that keeps it sound, and at one that doesn't. */
 static void border(size_t at, size_t bytes, uint64_t good, uint64_t bad)
@@ -882,14 +878,6 @@ static void answer_names(void)
     for (unsigned i = 0; i < 18; i++)
         CHECK(names[i], i);
     CHECK(SNATCHBLOCK_VERSION, 4);
-}
-
-static uint32_t number_at(size_t at, size_t bytes)
-{
-    uint32_t value = 0;
-    for (size_t i = 0; i < bytes; i++)
-        value |= (uint32_t)area[at + i] << 8 * i;
-    return value;
 }
 
 /* Each named number lands at its place: no two are equal. */

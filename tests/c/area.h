@@ -22,18 +22,6 @@ static bool area_stays(void)
     return memcmp(before, area_memory, sizeof before) == 0;
 }
 
-static void put(size_t at, size_t bytes, uint64_t value)
-{
-    for (size_t i = 0; i < bytes; i++)
-        area[at + i] = (uint8_t)(value >> 8 * i & 0xFF);
-}
-
-static uint64_t number_at(size_t at, size_t bytes)
-{
-    uint64_t value = 0;
-    for (size_t i = 0; i < bytes; i++)
-        value |= (uint64_t)area[at + i] << 8 * i;
-    return value;
-}
+#include "fields.h"
 
 #endif

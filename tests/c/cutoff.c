@@ -22,11 +22,7 @@ enum { AT_RATE = SNATCHBLOCK_HOST + 6, POWER = SNATCHBLOCK_HOST + 10, VOLTAGE = 
 
 static uint8_t area[SNATCHBLOCK_AREA];
 
-static void put(size_t at, size_t bytes, int64_t value)
-{
-    for (size_t i = 0; i < bytes; i++)
-        area[at + i] = (uint8_t)((uint64_t)value >> 8 * i & 0xFF);
-}
+#include "fields.h"
 
 /* So many of so many mAh, designed for 14,800 mV, at rest; the voltage measured, and the mode. */
 static void set_up(uint16_t remaining, uint16_t full, uint16_t millivolts, bool power)

@@ -64,19 +64,7 @@ static uint32_t transact(bool read, const uint8_t *bytes, size_t length)
 
 #include "words.h"
 
-static void put(size_t at, size_t bytes, uint64_t value)
-{
-    for (size_t i = 0; i < bytes; i++)
-        area[at + i] = (uint8_t)(value >> 8 * i & 0xFF);
-}
-
-static uint64_t number_at(size_t at, size_t bytes)
-{
-    uint64_t value = 0;
-    for (size_t i = 0; i < bytes; i++)
-        value |= (uint64_t)area[at + i] << 8 * i;
-    return value;
-}
+#include "fields.h"
 
 static void counts_at(int line, uint16_t cycles, uint64_t toward)
 {
@@ -288,21 +276,12 @@ static void above_design(void)
 
 /* ---- the area */
 
-/* Whether the area is sound; if it isn't, every call answers 1 and leaves it. */
-static void sound_at(int line, bool wanted)
+static uint32_t any_sample(void)
 {
-    static const uint8_t ask[3] = {0x16, 0x17, 0x17}, write[4] = {0x16, 0x03, 0, 0};
-    uint8_t before[sizeof area];
-    memcpy(before, area, sizeof area);
-    check_at(line, "sound", snatchblock_sound(area, sizeof area), wanted);
-    check_at(line, "a read", snatchblock_answer_of(transact(true, ask, sizeof ask)), !wanted);
-    if (wanted)
-        return;
-    check_at(line, "a write", transact(false, write, sizeof write), 1);
-    check_at(line, "a sample", sample_in(sizeof room, 14800, 0, counter), 1);
-    check_at(line, "the area", (unsigned)memcmp(before, area, sizeof area), 0);
+    return sample_in(sizeof room, 14800, 0, counter);
 }
-#define SOUND(wanted) sound_at(__LINE__, wanted)
+
+#include "sound.h"
 
 static void soundness(void)
 {

@@ -58,19 +58,7 @@ static uint16_t shown(int32_t value)
 
 #define MEAN(wanted) CHECK(word(0x0B), shown(wanted))
 
-static void put(size_t at, size_t bytes, int64_t value)
-{
-    for (size_t i = 0; i < bytes; i++)
-        area[at + i] = (uint8_t)((uint64_t)value >> 8 * i & 0xFF);
-}
-
-static uint32_t number_at(size_t at, size_t bytes)
-{
-    uint32_t value = 0;
-    for (size_t i = 0; i < bytes; i++)
-        value |= (uint32_t)area[at + i] << 8 * i;
-    return value;
-}
+#include "fields.h"
 
 /* A signed number of four bytes as the area keeps it. */
 static uint32_t kept(int64_t value)
@@ -266,21 +254,12 @@ static void places(void)
     MEAN(2); /* 18 of 7 */
 }
 
-/* Whether the area is sound; if it isn't, every call answers 1 and leaves it. */
-static void sound_at(int line, bool wanted)
+static uint32_t any_sample(void)
 {
-    static const uint8_t ask[3] = {0x16, 0x0B, 0x17}, write[4] = {0x16, 0x03, 0, 0};
-    uint8_t before[sizeof area];
-    memcpy(before, area, sizeof area);
-    check_at(line, "sound", snatchblock_sound(area, sizeof area), wanted);
-    check_at(line, "a read", snatchblock_answer_of(transact(true, ask, sizeof ask)), !wanted);
-    if (wanted)
-        return;
-    check_at(line, "a write", transact(false, write, sizeof write), 1);
-    check_at(line, "a sample", sample(0, 0), 1);
-    check_at(line, "the area", (unsigned)memcmp(before, area, sizeof area), 0);
+    return sample(0, 0);
 }
-#define SOUND(wanted) sound_at(__LINE__, wanted)
+
+#include "sound.h"
 
 /* A total at a place of the area, in so many ms, from each side of both its borders. */
 static void borders(size_t at, int32_t ms)
