@@ -1090,7 +1090,6 @@ static void play_edits(void)
     }
 }
 
-
 /* ---- the pack's life */
 
 static void play_life(void)
