@@ -17,7 +17,7 @@ use Rattle.runs.specs.Events.{Event, sample, call, step, EventFits, acce
 use Rattle.runs.specs.Promises.{RunFits, AcceptedSigned, ReachedFits, ReachedExchanged, ReachedWords}
 use Rattle.runs.specs.Since.{fromSetUp, Signed16}
 
-step-fits : (s : State) (e : Event) → Fits s → EventFits s e → Fits (step s e)
+pub step-fits : (s : State) (e : Event) → Fits s → EventFits s e → Fits (step s e)
 step-fits s (sample x n) f g = sampled-fits s x n f g
 step-fits s (call c) f g = fits-stays s c f g
 
