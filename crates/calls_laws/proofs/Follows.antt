@@ -1,9 +1,9 @@
 -- What is proved of the pack's states holds of its areas.
 -- Assumes nothing.
-use Prim.Native.Nat.{ℕ, _<_}
+use Prim.Native.Nat.{ℕ}
 use mathlib.Core.Bool.{Bool, true, false, _||_}
 use mathlib.Core.List.{List, [], _∷_, map}
-use mathlib.Core.Path.{_≡_, refl, sym, ap, _∙_, subst⁻¹}
+use mathlib.Core.Path.{_≡_, refl, sym, ap, ap₂, _∙_, subst⁻¹}
 use native.Mathlib.Omega.{arith}
 use borrow.Author.Tests.{eqb-true}
 use lib.Dec.{eqb}
@@ -13,7 +13,7 @@ use Rattle.area.specs.Area.{areaOf, stateIn, isArea}
 use Rattle.area_laws.proofs.Theorems.{error-first}
 use Rattle.bus.specs.Transact.{requestGiven, asked, transactAnswer, transactOf, replyRoom}
 use Rattle.calls.specs.Calls.{stays, areaAfter, sampleNumber, sampleArea, sampleRoom, transactNumber, transactArea, transactRoom}
-use Rattle.calls_laws.specs.Follows.{Lent, brings, hands, eventOf, areaStep, areaRun, CallFollows, AreasFollow, ChatterInAreas}
+use Rattle.calls_laws.specs.Follows.{Lent, brings, hands, eventOf, areaRun, numberTo, CallFollows, AreasFollow, ChatterInAreas, NextNumberIsSame}
 use Rattle.chatter.specs.Struck.{Struck, none, stays as remains, strikes}
 use Rattle.clock.proofs.Outcome.{outcome}
 use Rattle.clock.specs.Broadcast.{sampleOf, broadcastRoom}
@@ -27,13 +27,13 @@ use Rattle.pack.specs.declared.Sample.{Sample}
 use Rattle.pack.specs.declared.State.{State}
 use Rattle.packed.specs.Packed.{packed}
 use Rattle.rooms.proofs.Choice.{chosen}
-use Rattle.runs.proofs.Chatter.{chatter-is-idle}
-use Rattle.runs.proofs.Fits.{step-fits}
-use Rattle.runs.proofs.Histories.{step-sound}
+use Rattle.runs.proofs.Chatter.{chatter-is-idle, next-is-same}
+use Rattle.runs.proofs.Fits.{step-fits, run-fits}
+use Rattle.runs.proofs.Histories.{step-sound, run-sound}
 use Rattle.runs.proofs.Measures.{set-up-sound}
-use Rattle.runs.specs.Events.{Event, sample, call, step, run, Throughout, EventFits}
+use Rattle.runs.specs.Events.{Event, sample, call, step, run, Throughout, EventFits, answerTo}
 use Rattle.runs.specs.Since.{fromSetUp}
-use Rattle.runs.specs.Struck.{packParty}
+use Rattle.runs.specs.Struck.{lengthTo, packParty}
 use Rattle.start.proofs.Start.{start-fits}
 
 -- ---- one call
@@ -138,3 +138,20 @@ chatter-in-areas u first ls ks a fits g t r =
     ap (λ (x : List ℕ). drop 1 x) (areas-follow s ls h f t)
     ∙ error-first (run s (map eventOf ls)) (run s (map eventOf ks)) (chatter-is-idle u first (map eventOf ls) (map eventOf ks) a r .unmoved .state .pack)
     ∙ sym (ap (λ (x : List ℕ). drop 1 x) (areas-follow s ks h f (struck-fits s s (map eventOf ls) (map eventOf ks) r t)))
+
+-- the number of a call after a history
+number-after : (s : State) (ls : List Lent) (l : Lent) → soundOf s ≡ true → Fits s → Throughout EventFits s (map eventOf ls)
+    → numberTo (areaRun (areaOf s) ls) l ≡ packed (answerTo (run s (map eventOf ls)) (eventOf l)) (lengthTo (run s (map eventOf ls)) (eventOf l))
+number-after s ls l h f t =
+    ap (λ (a : List ℕ). numberTo a l) (areas-follow s ls h f t)
+    ∙ call-follows (run s (map eventOf ls)) l (run-sound s (map eventOf ls) h) (run-fits s (map eventOf ls) f t) .number
+
+pub next-number-is-same : NextNumberIsSame
+next-number-is-same u first ls ks l a fits g t r =
+    let s = fromSetUp u first in
+    let h = set-up-sound u first a in
+    let f = start-fits u first fits g in
+    let same = next-is-same s (map eventOf ls) (map eventOf ks) h r (eventOf l) in
+    number-after s ls l h f t
+    ∙ ap₂ (λ (answer length : ℕ). packed answer length) (same .answer) (same .length)
+    ∙ sym (number-after s ks l h f (struck-fits s s (map eventOf ls) (map eventOf ks) r t))

@@ -77,9 +77,17 @@ AreasFollow =
     (s : State) (ls : List Lent) → soundOf s ≡ true → Fits s → Throughout EventFits s (map eventOf ls)
     → areaRun (areaOf s) ls ≡ areaOf (run s (map eventOf ls))
 
--- request R-11 in areas: since a served set-up, with any idle calls struck out, every byte at the end is the same but the first, the error code (RULES 16.2)
+-- request R-11 in areas, where what set-up and the calls bring holds what its types let it hold: since a served set-up, with any idle calls struck out,
+-- every byte at the end is the same but the first, the error code (RULES 16.2)
 abbrev pub ChatterInAreas : Type 0
 ChatterInAreas =
     (u : Setup) (first : Sample) (ls ks : List Lent) → setUpOf u first .answer ≡ 0 → SetupFits u → SampleFits first
     → Throughout EventFits (fromSetUp u first) (map eventOf ls) → Struck packParty (fromSetUp u first) (map eventOf ls) (map eventOf ks)
     → drop 1 (areaRun (areaOf (fromSetUp u first)) ls) ≡ drop 1 (areaRun (areaOf (fromSetUp u first)) ks)
+
+-- and whatever call comes next gives the same number (RULES 16.4)
+abbrev pub NextNumberIsSame : Type 0
+NextNumberIsSame =
+    (u : Setup) (first : Sample) (ls ks : List Lent) (l : Lent) → setUpOf u first .answer ≡ 0 → SetupFits u → SampleFits first
+    → Throughout EventFits (fromSetUp u first) (map eventOf ls) → Struck packParty (fromSetUp u first) (map eventOf ls) (map eventOf ks)
+    → numberTo (areaRun (areaOf (fromSetUp u first)) ls) l ≡ numberTo (areaRun (areaOf (fromSetUp u first)) ks) l

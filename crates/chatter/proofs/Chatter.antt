@@ -4,7 +4,7 @@ use mathlib.Core.Bool.{Bool, true, false, cond, _&&_, and-eq-true-iff}
 use mathlib.Core.List.{List, [], _∷_, _++_}
 use mathlib.Core.Path.{_≡_, refl, ap, _∙_}
 use Rattle.chatter.specs.Histories.{over}
-use Rattle.chatter.specs.Promises.{StepLaw, AddsSame, ChatterIsIdle, OverIsSame, AnyChoice}
+use Rattle.chatter.specs.Promises.{ChatterIsIdle, OverIsSame, AnyChoice}
 use Rattle.chatter.specs.Struck.{Party, Struck, none, stays, strikes, strike}
 
 pub chatter-is-idle : {S E : Type 0} (p : Party S E) → ChatterIsIdle p

@@ -1,6 +1,5 @@
 -- Histories of anything that takes events one after another: a pack, a charger, both on one bus.
 -- Assumes nothing.
-use Prim.Native.Nat.{ℕ}
 use mathlib.Core.List.{List, [], _∷_}
 
 -- the state after events, the oldest first, by the state that each leaves

@@ -1,7 +1,7 @@
 -- What hosts ask of pack and charger disturbs neither.
 -- Assumes nothing.
 use Prim.Native.Nat.{ℕ}
-use mathlib.Core.Bool.{Bool, true, cond, true≢false}
+use mathlib.Core.Bool.{true, cond, true≢false}
 use mathlib.Core.List.{List, [], _∷_, _++_}
 use mathlib.Core.Path.{_≡_, refl, sym, ap, ap₂, _∙_}
 use Rattle.charger_state.specs.Charger.{currentOf}
@@ -11,7 +11,7 @@ use Rattle.charger_laws.specs.Events as charger
 use Rattle.chatter.proofs.Chatter.{chatter-is-idle}
 use Rattle.chatter.specs.Promises.{StepLaw}
 use Rattle.joined.specs.Chatter.{isIdleOnBus, SameJoint, SameHappening, jointParty, ChatterOnBus, CurrentUndisturbed}
-use Rattle.joined.specs.Joined.{Joint, Tick, Happening, tick, host, asks, packSample, packEvents, cut, messagesFrom, deliveries, chargerEvents, happen}
+use Rattle.joined.specs.Joined.{Joint, Tick, Happening, tick, host, asks, packSample, cut, messagesFrom, deliveries, chargerEvents, happen}
 use Rattle.joined.specs.Promises.{fromSetUps}
 use Rattle.pack.specs.declared.Pack.{Pack}
 use Rattle.runs.proofs.Alike.{pack-step}
