@@ -22,8 +22,7 @@ static struct sb2_thirteen thirteen;
 static uint8_t room[256];
 static uint8_t text[4096];
 static uint8_t letters[1024], strokes[64];
-static uint8_t sheet[145], new_sheet[157], new_names[145]; /* four names; two words and they; they in the new form */
-static struct sb2_bytes lent;                              /* which of them a transaction is lent twice */
+static uint8_t sheet[145];
 static uint8_t capture[1 + 40 * 39];
 static uint8_t walked[1 + 255 * 39];
 static uint8_t shelf[SB2_SHELF_MOST * SB2_SHELF_ROW];
@@ -65,19 +64,20 @@ static void bits_c(void)
 
 static void transact_p(void)
 {
-    sink = snatchblock_transact(area, sizeof area, lent.at, lent.length, lent.at, lent.length, reading, message,
+    sink = snatchblock_transact(area, sizeof area, sheet, sheet_length, sheet, sheet_length, reading, message,
                                 message_length, room, 34);
 }
 static void transact_c(void)
 {
     size_t length;
-    sink = (uint64_t)sb2_area_transact(area, sizeof area, reading, of(message, message_length), lent, lent, room, 34,
-                                       &length);
+    sink = (uint64_t)sb2_area_transact(area, sizeof area, reading, of(message, message_length), of(sheet, sheet_length),
+                                       of(sheet, sheet_length), room, 34, &length);
 }
 static void transact_s(void)
 {
     size_t length;
-    sink = (uint64_t)sb2_transact(&state, reading, of(message, message_length), lent, lent, room, 34, &length);
+    sink = (uint64_t)sb2_transact(&state, reading, of(message, message_length), of(sheet, sheet_length),
+                                  of(sheet, sheet_length), room, 34, &length);
 }
 
 static void sound_p(void) { sink = snatchblock_sound(area, sizeof area); }
@@ -182,48 +182,6 @@ static void write_sheet_c(void)
     struct sb2_body bodies[4] = {body, body, body, body};
     sink = (uint64_t)sb2_sheet_write(bodies, room, 145, &length);
 }
-static void is_new_sheet_p(void) { sink = snatchblock_is_new_sheet(new_sheet, sizeof new_sheet); }
-static void is_new_sheet_c(void) { sink = sb2_sheet_new(of(new_sheet, sizeof new_sheet)); }
-static void write_new_sheet_p(void)
-{
-    sink = snatchblock_write_new_sheet(room, 157, true, 0x526F, true, 17, true, text, 32, true, text, 32, true, text, 32,
-                                       true, text, 32);
-}
-static void write_new_sheet_c(void)
-{
-    size_t length;
-    const struct sb2_word words[2] = {{true, 0x526F}, {true, 17}};
-    struct sb2_body body = {true, of(text, 32)};
-    struct sb2_body bodies[4] = {body, body, body, body};
-    sink = (uint64_t)sb2_sheet_write_new(words, bodies, room, 157, &length);
-}
-static void to_new_p(void) { sink = snatchblock_sheet_to_new(sheet, sheet_length, room, 145); }
-static void to_new_c(void)
-{
-    size_t length;
-    sink = (uint64_t)sb2_sheet_to_new(of(sheet, sheet_length), room, 145, &length);
-}
-static void to_old_p(void) { sink = snatchblock_sheet_to_old(new_names, sizeof new_names, room, 145); }
-static void to_old_c(void)
-{
-    size_t length;
-    sink = (uint64_t)sb2_sheet_to_old(of(new_names, sizeof new_names), room, 145, &length);
-}
-static void pack_key_p(void)
-{
-    sink = snatchblock_pack_key(area, sizeof area, new_sheet, sizeof new_sheet, sheet, sheet_length, room, 139);
-}
-static void pack_key_c(void)
-{
-    size_t length;
-    sink = (uint64_t)sb2_area_pack_key(of(area, sizeof area), of(new_sheet, sizeof new_sheet), of(sheet, sheet_length),
-                                       room, 139, &length);
-}
-static void pack_key_s(void)
-{
-    size_t length;
-    sink = (uint64_t)sb2_pack_key(&state, of(new_sheet, sizeof new_sheet), of(sheet, sheet_length), room, 139, &length);
-}
 static void block_p(void) { sink = snatchblock_block(sheet, sheet_length, sheet, sheet_length, 0x23); }
 static void block_c(void)
 {
@@ -247,22 +205,6 @@ static void remove_body_c(void)
 {
     size_t length;
     sink = (uint64_t)sb2_sheet_remove(edit_room(), 145, sheet_length, 0x20, &length);
-}
-
-/* The first of two words and four names of 32 bytes: another in its place, or none. */
-static uint8_t new_rooms[EDIT_ROOMS][157];
-static uint8_t *new_room(void) { return new_rooms[edits++ % EDIT_ROOMS]; }
-static void set_word_p(void) { sink = snatchblock_set_body(new_room(), 157, 157, 0x1B, text, 2); }
-static void set_word_c(void)
-{
-    size_t length;
-    sink = (uint64_t)sb2_sheet_set(new_room(), 157, 157, 0x1B, of(text, 2), &length);
-}
-static void remove_word_p(void) { sink = snatchblock_remove_body(new_room(), 157, 157, 0x1B); }
-static void remove_word_c(void)
-{
-    size_t length;
-    sink = (uint64_t)sb2_sheet_remove(new_room(), 157, 157, 0x1B, &length);
 }
 
 static void open_p(void) { sink = snatchblock_open_capture(capture, capture_length); }
@@ -479,16 +421,9 @@ static const struct {
     {unescape_strokes_p, "snatchblock_unescape"},
     {write_sheet_p, "snatchblock_write_sheet"},
     {is_sheet_p, "snatchblock_is_sheet"},
-    {write_new_sheet_p, "snatchblock_write_new_sheet"},
-    {is_new_sheet_p, "snatchblock_is_new_sheet"},
-    {to_new_p, "snatchblock_sheet_to_new"},
-    {to_old_p, "snatchblock_sheet_to_old"},
-    {pack_key_p, "snatchblock_pack_key"},
     {block_p, "snatchblock_block"},
     {set_body_p, "snatchblock_set_body"},
     {remove_body_p, "snatchblock_remove_body"},
-    {set_word_p, "snatchblock_set_body"},
-    {remove_word_p, "snatchblock_remove_body"},
     {open_p, "snatchblock_open_capture"},
     {step_p, "snatchblock_step_capture"},
     {shelf_p, "snatchblock_shelf_report"},
@@ -518,10 +453,10 @@ struct entry {
     char name[32];
     void (*call[3])(void); /* p, c, s */
     size_t size;
-    bool reading, power, with_pec, beyond, of_charger, of_new;
+    bool reading, power, with_pec, beyond, of_charger;
     uint8_t command;
 };
-static struct entry entries[128];
+static struct entry entries[112];
 static size_t count;
 
 static struct entry *add(const char *name, void (*p)(void), void (*c)(void), void (*s)(void))
@@ -598,25 +533,6 @@ static void make_thirteen_entries(void)
     add_to_thirteen("thirteen-write-pec", false, 0x4F);
 }
 
-static void make_sheet_entries(void)
-{
-    static const uint8_t commands[] = {0x1B, 0x1C, 0x23};
-    for (size_t i = 0; i < sizeof commands; i++)
-        add_command("new-sheet-read", true, commands[i])->of_new = true;
-    add("write-sheet", write_sheet_p, write_sheet_c, NULL);
-    add("is-sheet", is_sheet_p, is_sheet_c, NULL);
-    add("write-new-sheet", write_new_sheet_p, write_new_sheet_c, NULL);
-    add("is-new-sheet", is_new_sheet_p, is_new_sheet_c, NULL);
-    add("sheet-to-new", to_new_p, to_new_c, NULL);
-    add("sheet-to-old", to_old_p, to_old_c, NULL);
-    add("pack-key", pack_key_p, pack_key_c, pack_key_s);
-    add("block", block_p, block_c, NULL);
-    add("set-body", set_body_p, set_body_c, NULL);
-    add("remove-body", remove_body_p, remove_body_c, NULL);
-    add("set-word", set_word_p, set_word_c, NULL);
-    add("remove-word", remove_word_p, remove_word_c, NULL);
-}
-
 static void make_entries(void)
 {
     static const size_t lengths[] = {2, 3, 4, 5, 6, 8, 10, 12, 16, 24, 37, 65536};
@@ -648,7 +564,11 @@ static void make_entries(void)
     add_sized("read-key-no-slash", 1024, no_slash_p, no_slash_c);
     add_sized("unescape", 32, unescape_p, unescape_c);
     add_sized("unescape-strokes", 64, unescape_strokes_p, unescape_strokes_c);
-    make_sheet_entries();
+    add("write-sheet", write_sheet_p, write_sheet_c, NULL);
+    add("is-sheet", is_sheet_p, is_sheet_c, NULL);
+    add("block", block_p, block_c, NULL);
+    add("set-body", set_body_p, set_body_c, NULL);
+    add("remove-body", remove_body_p, remove_body_c, NULL);
     add_sized("exchange", 6, exchange_p, exchange_c);
     add_sized("exchange", 37, exchange_p, exchange_c);
     add_sized("comparison", 6, bits_p, bits_c);
@@ -739,12 +659,9 @@ static void prepare(const struct entry *e)
         write_both(area, &state, 0x04, 0xFFFF); /* AtRate -1 */
     if (e->with_pec)
         area[SNATCHBLOCK_PLAIN] = state.settings.plain = false;
-    for (size_t i = 0; i < EDIT_ROOMS; i++) {
+    for (size_t i = 0; i < EDIT_ROOMS; i++)
         memcpy(edit_rooms[i], sheet, sheet_length);
-        memcpy(new_rooms[i], new_sheet, sizeof new_sheet);
-    }
     edits = 0;
-    lent = e->of_new ? of(new_sheet, sizeof new_sheet) : of(sheet, sheet_length);
     counter = 60000;
     size = e->size;
     if (e->call[0] == walk_p)
@@ -786,11 +703,6 @@ static void make_data(void)
         strokes[i] = i % 2 == 0 ? 0x5C : 0x2F;
     struct sb2_body body = {true, of(text, 32)};
     struct sb2_body bodies[4] = {body, body, body, body};
-    const struct sb2_word words[2] = {{true, 0x526F}, {true, 17}}, none[2] = {{false, 0}, {false, 0}};
-    size_t length;
-    (void)sb2_sheet_write_new(words, bodies, new_sheet, sizeof new_sheet, &length);
-    (void)sb2_sheet_write_new(none, bodies, room, sizeof room, &length);
-    memcpy(new_names, room, sizeof new_names);
     (void)sb2_sheet_write(bodies, sheet, sizeof sheet, &sheet_length);
     (void)sb2_key_write(of(text, 32), of(text + 64, 32), 0x526F, 17, key, sizeof key, &key_length);
     make_capture(capture, 40);

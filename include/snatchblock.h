@@ -23,11 +23,10 @@
  * One call at a time on one area. If transactions come from an interrupt, mask it around every call, and every copy of
  * the area, that the loop makes; the bus hardware holds the clock meanwhile. Calls on other areas may run beside it.
  *
- * Stack, in bytes, the most that was measured of each (`make bench`, x86-64; nothing proves it): transact 4,384;
- * sample 2,400; thirteen_sample 2,080; read_key 1,752; unescape 1,656; pack_key 976; thirteen_transact 968; sound 784;
- * write_new_sheet 432; charger_transact 392; write_sheet 384; thirteen_sound 336; exchange_check 312; pec 280;
- * set_body 208; remove_body 176; write_key 128; set_up 128; thirteen_set_up 120; sheet_to_new 104; sheet_to_old 104;
- * block 96; shelf_report 80; charger_sample 56; all others 16.
+ * Stack, in bytes, the most that was measured of each (`make bench`, x86-64; nothing proves it): transact 4,352;
+ * sample 2,400; thirteen_sample 2,080; read_key 1,752; unescape 1,656; thirteen_transact 968; sound 784;
+ * charger_transact 392; thirteen_sound 336; exchange_check 312; pec 280; set_body 176; write_sheet 128; set_up 128;
+ * thirteen_set_up 120; remove_body 112; block 104; shelf_report 80; write_key 56; charger_sample 56; all others 16.
  */
 #ifndef SNATCHBLOCK_H
 #define SNATCHBLOCK_H
@@ -43,15 +42,14 @@ extern "C" {
 /* ---- answers */
 
 /*
- * The lowest number whose condition holds is given, 0 where none does; only a move of a sheet looks for 9, 21 and 2 in
- * that order. 0 and 10 are served, all others are refusals. In a transaction 1 to 3 leave the error code that
- * BatteryStatus shows; 0 leaves 0, 4 to 10 the code in brackets.
+ * The lowest number whose condition holds is given, 0 where none does. 0 and 10 are served, all others are refusals.
+ * 1 to 3 leave the error code that BatteryStatus shows; 0 leaves 0, 4 to 10 the code in brackets.
  */
 enum snatchblock_answer {
     SNATCHBLOCK_SERVED = 0,
     SNATCHBLOCK_NOT_SOUND = 1,         /* no area, or its state isn't sound */
     SNATCHBLOCK_SMALL_ROOM = 2,        /* a room for a reply under 34 bytes, of the charger 3, broadcasts 20 (plain: 16),
-                                          the shelf 16, a moved sheet as many as it has */
+                                          the shelf 16 */
     SNATCHBLOCK_OTHER_ADDRESS = 3,     /* no bytes, or the first isn't 16, for the charger 12 */
     SNATCHBLOCK_WRONG_FORM = 4,        /* wrong size or form (6, BadSize), of the thirteen-cell pack also a write without
                                           PEC; a shelf's table that isn't whole rows */
@@ -60,23 +58,20 @@ enum snatchblock_answer {
     SNATCHBLOCK_COMMAND_NOT_BUILT = 7, /* an optional command that this pack hasn't (3, UnsupportedCommand) */
     SNATCHBLOCK_READ_ONLY = 8,         /* a write to what is only read (4, AccessDenied); of the charger also a read of
                                           what is only written */
-    SNATCHBLOCK_BAD_SHEET = 9,         /* a read of 1B, 1C or a block, and one of the two sheets is none (7); so too in
-                                          a pack's key; an edit, and the room's front is no sheet of the stated length;
-                                          a move, and the bytes are no sheet of the form that it takes */
+    SNATCHBLOCK_BAD_SHEET = 9,         /* a block read, and one of the two sheets is none (7); an edit, and the room's
+                                          front is no sheet of the stated length */
     SNATCHBLOCK_SERVED_CUT_OFF = 10,   /* minutes beyond the range (65,534, FE FF), or AtRateTimeToFull in power mode
                                           (FF FF): word and PEC are sent (5, Overflow/Underflow) */
     SNATCHBLOCK_BAD_SET_UP = 11,       /* DesignCapacity, full or DesignVoltage is 0, or remaining is above full */
-    SNATCHBLOCK_NO_FIT = 12,           /* a name or body over 32 bytes, or a room too short for what is to be written:
-                                          under 139 bytes for a key, 145 for a sheet, 157 for a new sheet */
+    SNATCHBLOCK_NO_FIT = 12,           /* a name or body over 32 bytes, or a room too short for what is to be written */
     SNATCHBLOCK_NOT_A_KEY = 13,
     SNATCHBLOCK_NOT_A_CAPTURE = 14,
     SNATCHBLOCK_WRONG_LENGTH = 15, /* an exchange outside 2 to 37 bytes; a comparison of unequal lengths or over 37 */
     SNATCHBLOCK_TOO_MANY_ROWS = 16, /* a shelf's table of more than 64 rows */
     SNATCHBLOCK_BAD_ROW = 17,       /* a row of it with full or design 0, or with remaining above full */
-    SNATCHBLOCK_BAD_TAG = 18,       /* an edit's tag isn't 20 to 23, nor 1B or 1C in a new sheet */
-    SNATCHBLOCK_LONG_BODY = 19,     /* its body is over 32 bytes, or that of 1B or 1C isn't of two */
-    SNATCHBLOCK_LONG_SHEET = 20,    /* its sheet would be longer than the room */
-    SNATCHBLOCK_LISTS_WORD = 21     /* a move back met a word */
+    SNATCHBLOCK_BAD_TAG = 18,       /* an edit's tag isn't 20 to 23 */
+    SNATCHBLOCK_LONG_BODY = 19,     /* its body is over 32 bytes */
+    SNATCHBLOCK_LONG_SHEET = 20     /* its sheet would be longer than the room */
 };
 
 /*
@@ -88,9 +83,7 @@ enum snatchblock_answer {
  *     charger_sample, thirteen_set_up
  *     and thirteen_sample             0-7: the answer
  *   sample, transact, write_key,
- *     pack_key, unescape,
- *     write_sheet, write_new_sheet,
- *     sheet_to_new, sheet_to_old,
+ *     unescape, write_sheet,
  *     shelf_report, charger_transact,
  *     thirteen_transact               8-31: the bytes written to the front of the room; the rest of it stays
  *   set_body, remove_body             8-31: the new sheet's length
@@ -196,14 +189,13 @@ static inline size_t snatchblock_step_next(uint64_t result) { return (size_t)(re
 #define SNATCHBLOCK_AREA (SNATCHBLOCK_RECENT + 247)
 
 /*
- * Room that is always enough: for a sample's broadcasts, a reply, a key, a sheet, a new sheet, a shelf's figures. Less
- * is refused; broadcasts in plain are served from 16 bytes on, and an edit and a move wherever their sheet fits.
+ * Room that is always enough: for a sample's broadcasts, a reply, a key, a sheet, a shelf's figures. Less is refused;
+ * broadcasts in plain are served from 16 bytes on, and an edit wherever its sheet fits.
  */
 #define SNATCHBLOCK_BROADCAST_ROOM 20
 #define SNATCHBLOCK_REPLY_ROOM 34
 #define SNATCHBLOCK_KEY_ROOM 139
 #define SNATCHBLOCK_SHEET_ROOM 145
-#define SNATCHBLOCK_NEW_SHEET_ROOM 157
 #define SNATCHBLOCK_SHELF_ROOM 16
 
 /* Whether bytes are an area and its state is sound. */
@@ -328,10 +320,8 @@ static inline size_t snatchblock_message_length(const uint8_t area[SNATCHBLOCK_A
  * that rounds to 0, shows 65,534 too and is answered 10: the error code, read next, tells a host that the word was cut
  * off. 65,535 with answer 0: nothing flows that way. 05 in power mode has no minutes: 65,535 with answer 10.
  *
- * Two sheets, each old or new, hold the names that block reads (20 to 23) show, and new ones may hold ManufactureDate
- * (1B) and SerialNumber (1C); the service sheet goes before the factory sheet, and a word that neither lists is the one
- * of set-up. For a sheet that lists nothing lend the one byte 00. No bytes are no sheet: every read of 1B, 1C and 20 to
- * 23 is then answered 9, of the two words also where set-up has them. No other command looks at the sheets.
+ * Two sheets hold the names that block reads (20 to 23) show; the service sheet goes before the factory sheet. For no
+ * names lend the one byte 00, a sheet too. No bytes are no sheet: every block read is then answered 9.
  *
  * Hosts may poll as they like: a read and a refused call change nothing but the error code. Leave any of them out, and
  * every alarm, every count and every other reply is as it was, but for the low four bits of BatteryStatus and its PEC.
@@ -556,15 +546,6 @@ uint32_t snatchblock_write_key(const uint8_t *maker, size_t maker_length, const 
                                size_t device_length, uint16_t date, uint16_t serial, uint8_t *room,
                                size_t room_length);
 
-/*
- * The key of the pack in this area, with these sheets, each old or new: of the names 20 and 21 and the words 1B and 1C
- * that its reads show, service sheet first, then factory sheet, then for a word set-up; a name that neither lists has
- * no bytes. The area is only read: this is no transaction, and the error code stays. length_of is at most 139. Answers
- * 0; 1: no area, or not sound; 9: one of the two isn't a sheet; 12: a room under 139.
- */
-uint32_t snatchblock_pack_key(const uint8_t *area, size_t area_length, const uint8_t *service, size_t service_length,
-                              const uint8_t *factory, size_t factory_length, uint8_t *room, size_t room_length);
-
 /* The parts of a key: key_maker_length and its fellows. Both names are still escaped. Answers 0; 13: no key. */
 uint64_t snatchblock_read_key(const uint8_t *key, size_t length);
 
@@ -577,48 +558,22 @@ uint32_t snatchblock_unescape(const uint8_t *part, size_t part_length, uint8_t *
 /* ---- sheets */
 
 /*
- * A sheet is one byte n, then n rows of tag, length and offset (two bytes, low first, from the sheet's first byte),
- * then the bodies in the rows' order, without gaps, to the sheet's end. Tags rise. There are two forms:
- *
- *   old   n is 0 to 4. Tags 20 to 23: ManufacturerName, DeviceName, DeviceChemistry, ManufacturerData, of 0 to 32
- *         bytes. At most 145 bytes.
- *   new   the first byte is 80 + n, n 0 to 6. Before these may stand 1B and 1C: ManufactureDate and SerialNumber, of
- *         two bytes, low first. At most 157 bytes.
- *
- * Where two sheets are lent, each may be of either form. Software that knows the old form alone refuses every new
- * sheet.
- */
-
-/* Whether bytes are a sheet of the old form. */
-bool snatchblock_is_sheet(const uint8_t *bytes, size_t length);
-
-/* Whether bytes are a sheet of the new form. */
-bool snatchblock_is_new_sheet(const uint8_t *bytes, size_t length);
-
-/*
- * An old sheet of the bodies that there are. Where has is false the body's bytes are ignored. Give a name at least one
- * byte. Answers 0; 12: a body over 32 bytes, or a room under 145.
+ * A sheet of the bodies that there are, for the tags 20 to 23: ManufacturerName, DeviceName, DeviceChemistry,
+ * ManufacturerData. Where has is false the body's bytes are ignored. Give a name at least one byte. Answers 0; 12: a
+ * body over 32 bytes, or a room under 145.
  */
 uint32_t snatchblock_write_sheet(uint8_t *room, size_t room_length, bool has20, const uint8_t *body20,
                                  size_t length20, bool has21, const uint8_t *body21, size_t length21, bool has22,
                                  const uint8_t *body22, size_t length22, bool has23, const uint8_t *body23,
                                  size_t length23);
 
-/* A new sheet, likewise, with the words that there are. Answers 0; 12: a body over 32 bytes, or a room under 157. */
-uint32_t snatchblock_write_new_sheet(uint8_t *room, size_t room_length, bool has1B, uint16_t date, bool has1C,
-                                     uint16_t serial, bool has20, const uint8_t *body20, size_t length20, bool has21,
-                                     const uint8_t *body21, size_t length21, bool has22, const uint8_t *body22,
-                                     size_t length22, bool has23, const uint8_t *body23, size_t length23);
-
 /*
- * Sets a body of up to 32 bytes in the sheet, old or new, that the room holds in its first stated bytes: adds it, or
- * puts it in the place of the one under its tag. The form stays. A new sheet takes 1B and 1C too, with a body of two
- * bytes, low first. Later bodies move, so that the result is the sheet that write_sheet, or write_new_sheet, gives of
- * the same bodies. length_of is its length, for the next edit to state. Bytes past it within the sheet of before become
- * 0; all beyond both stay. Answers 0; 9: the room's front is no sheet of the stated length; 18: the tag isn't 20 to 23,
- * nor 1B or 1C in a new sheet; 19: the body is over 32 bytes, or that of 1B or 1C isn't of two; 20: the sheet would be
- * longer than the room. A refusal, looked for in that order, writes nothing. Edit a copy of stored bytes, and store
- * that: an edit that the power cuts short leaves no sheet.
+ * Sets a body of up to 32 bytes in the sheet that the room holds in its first stated bytes: adds it, or puts it in the
+ * place of the one under its tag. Later bodies move, so that the result is the sheet that write_sheet gives of the same
+ * bodies. length_of is its length, for the next edit to state. Bytes past it within the old sheet become 0; all beyond
+ * both stay. Answers 0; 9: the room's front is no sheet of the stated length; 18: the tag isn't 20 to 23; 19: the body
+ * is over 32 bytes; 20: the sheet would be longer than the room. A refusal, looked for in that order, writes nothing.
+ * Edit a copy of stored bytes, and store that: an edit that the power cuts short leaves no sheet.
  */
 uint32_t snatchblock_set_body(uint8_t *room, size_t room_length, size_t stated, uint8_t tag, const uint8_t *body,
                               size_t body_length);
@@ -626,22 +581,12 @@ uint32_t snatchblock_set_body(uint8_t *room, size_t room_length, size_t stated, 
 /* Removes the body of a tag, in the same way. A tag that is absent gives the sheet's own length. Answers 0, 9, 18. */
 uint32_t snatchblock_remove_body(uint8_t *room, size_t room_length, size_t stated, uint8_t tag);
 
-/*
- * An old sheet in the new form: the same bodies, so the same bytes but for the first, to which 80 is added. Moved back
- * it has its very bytes again. Answers 0; 9: no old sheet; 2: the room is shorter than the sheet.
- */
-uint32_t snatchblock_sheet_to_new(const uint8_t *bytes, size_t length, uint8_t *room, size_t room_length);
+/* Whether bytes are a sheet. */
+bool snatchblock_is_sheet(const uint8_t *bytes, size_t length);
 
 /*
- * A new sheet in the old form, which has no words. Answers 0; 9: no new sheet; 21: it lists 1B or 1C; 2: the room is
- * shorter than the sheet. A refusal is looked for in that order.
- */
-uint32_t snatchblock_sheet_to_old(const uint8_t *bytes, size_t length, uint8_t *room, size_t room_length);
-
-/*
- * Where the body of a tag lies: block_length bytes at block_offset of the factory sheet (block_in_factory), else of the
- * service sheet; of 1B and 1C the word's two bytes. A tag in neither has no bytes, at 0 of the factory sheet. Answers
- * 0; 9: one of the two isn't a sheet.
+ * Where the block of a tag lies: block_length bytes at block_offset of the factory sheet (block_in_factory), else of the
+ * service sheet. A tag in neither has no bytes, at 0 of the factory sheet. Answers 0; 9: one of the two isn't a sheet.
  */
 uint64_t snatchblock_block(const uint8_t *service, size_t service_length, const uint8_t *factory,
                            size_t factory_length, uint8_t tag);

@@ -258,16 +258,6 @@ int sb2_area_transact(uint8_t *area, size_t area_length, bool read, struct sb2_b
     return answer;
 }
 
-int sb2_area_pack_key(struct sb2_bytes area, struct sb2_bytes service, struct sb2_bytes factory, uint8_t *room,
-                      size_t room_length, size_t *length)
-{
-    struct sb2_state state;
-    *length = 0;
-    if (!sb2_area_load(area, &state))
-        return SB2_NOT_SOUND;
-    return sb2_pack_key(&state, service, factory, room, room_length, length);
-}
-
 /* ---- the charger's area */
 
 /* Where the flag of each fact stands, from the lowest bit up. */

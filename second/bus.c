@@ -23,20 +23,7 @@ enum sb2_kind sb2_kind_of(uint8_t command)
     return command < 64 ? (enum sb2_kind)kinds[command] : SB2_KIND_RESERVED;
 }
 
-/* Whether a read shows what a sheet lists: the blocks, ManufactureDate and SerialNumber (rules: Pack sheet; R-12). */
-static bool in_sheets(uint8_t command)
-{
-    return sb2_kind_of(command) == SB2_KIND_READ_BLOCK || command == 0x1B || command == 0x1C;
-}
-
-/* Whether both are sheets, each of either form (rule: R-12). */
-static bool both_good(struct sb2_bytes service, struct sb2_bytes factory)
-{
-    struct sb2_sheet one, two;
-    return sb2_sheet_read(service, &one) && sb2_sheet_read(factory, &two);
-}
-
-/* The lowest number from 3 to 9 whose condition holds, else 0 (rules: Answer numbers; R-12). */
+/* The lowest number from 3 to 9 whose condition holds, else 0 (rule: Answer numbers). */
 static int judge(bool read, struct sb2_bytes message, struct sb2_bytes service, struct sb2_bytes factory)
 {
     if (message.length == 0 || message.at[0] != WRITE_ADDRESS)
@@ -55,7 +42,7 @@ static int judge(bool read, struct sb2_bytes message, struct sb2_bytes service, 
         return SB2_NOT_BUILT;
     if (!read && kind != SB2_KIND_WRITE_WORD)
         return SB2_READ_ONLY;
-    if (in_sheets(message.at[1]) && !both_good(service, factory))
+    if (kind == SB2_KIND_READ_BLOCK && !(sb2_sheet_good(service) && sb2_sheet_good(factory)))
         return SB2_BAD_SHEET;
     return SB2_SERVED;
 }
@@ -106,12 +93,13 @@ static void write_word(struct sb2_state *s, uint8_t command, uint16_t word)
 /* Puts a block, its count and its bytes; gives how many bytes that are (rule: Transactions). */
 static size_t put_block(uint8_t command, struct sb2_bytes service, struct sb2_bytes factory, uint8_t *room)
 {
-    struct sb2_bytes name;
-    (void)sb2_sheet_name(service, factory, command, &name);
-    room[0] = (uint8_t)name.length;
-    for (size_t i = 0; i < name.length; i++)
-        room[1 + i] = name.at[i];
-    return 1 + name.length;
+    struct sb2_block block;
+    (void)sb2_sheet_block(service, factory, command, &block);
+    const uint8_t *sheet = block.in_service ? service.at : factory.at;
+    room[0] = (uint8_t)block.part.length;
+    for (size_t i = 0; i < block.part.length; i++)
+        room[1 + i] = sheet[block.part.offset + i];
+    return 1 + block.part.length;
 }
 
 /* Puts a word, low byte first (rule: Transactions). */
@@ -133,8 +121,8 @@ size_t sb2_put_pec(struct sb2_bytes message, uint8_t *room, size_t place)
     return place + 1;
 }
 
-/* Puts the reply to a read: answers 10 where its register gave a word that was cut off, else 0. A word that a sheet
- * lists goes before the register's (rules: Transactions; R-6; R-12). */
+/* Puts the reply to a read: answers 10 where its register gave a word that was cut off, else 0 (rules: Transactions;
+ * R-6). */
 static int serve_read(const struct sb2_state *s, struct sb2_bytes message, struct sb2_bytes service,
                       struct sb2_bytes factory, uint8_t *room, size_t *length)
 {
@@ -144,8 +132,6 @@ static int serve_read(const struct sb2_state *s, struct sb2_bytes message, struc
         return SB2_SERVED;
     }
     struct sb2_shown shown = sb2_register(s, command);
-    if (in_sheets(command))
-        (void)sb2_sheet_word(service, factory, command, &shown.word);
     *length = sb2_put_pec(message, room, sb2_put_word(shown.word, room));
     return shown.cut_off ? SB2_OVERFLOW : SB2_SERVED;
 }

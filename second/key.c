@@ -144,21 +144,3 @@ int sb2_key_unescape(struct sb2_bytes name, uint8_t *room, size_t room_length, s
     *length = place;
     return SB2_SERVED;
 }
-
-/* 1, 9 or 12, else the key of the names and words that the sheets list, a word listed in neither as set up (rule:
- * R-12). */
-int sb2_pack_key(const struct sb2_state *state, struct sb2_bytes service, struct sb2_bytes factory, uint8_t *room,
-                 size_t room_length, size_t *length)
-{
-    struct sb2_bytes maker, device;
-    uint16_t date = state->settings.manufacture_date, serial = state->settings.serial_number;
-    *length = 0;
-    if (!sb2_sound(state))
-        return SB2_NOT_SOUND;
-    if (sb2_sheet_name(service, factory, 0x20, &maker) != SB2_SERVED)
-        return SB2_BAD_SHEET; /* and so of the other three */
-    (void)sb2_sheet_name(service, factory, 0x21, &device);
-    (void)sb2_sheet_word(service, factory, 0x1B, &date);
-    (void)sb2_sheet_word(service, factory, 0x1C, &serial);
-    return sb2_key_write(maker, device, date, serial, room, room_length, length);
-}

@@ -41,19 +41,17 @@ enum sb2_answer {
     SB2_TOO_MANY_ROWS = 16,
     SB2_BAD_ROW = 17,
     SB2_BAD_TAG = 18,
-    SB2_LONG_BODY = 19,  /* or a word of other than two bytes */
-    SB2_LONG_SHEET = 20, /* what an edit would give, for its room */
-    SB2_LISTS_WORD = 21  /* what can't go back to the old form */
+    SB2_LONG_BODY = 19,
+    SB2_LONG_SHEET = 20 /* what an edit would give, for its room */
 };
 
-/* Sizes and times of document 01, of new sheets and of the shelf. */
+/* Sizes and times of document 01 and of the shelf. */
 enum {
     SB2_REPLY_ROOM = 34,
     SB2_BROADCAST_ROOM = 20, /* four messages, each with its PEC */
     SB2_PLAIN_ROOM = 16,     /* and in plain */
     SB2_KEY_ROOM = 139,
     SB2_SHEET_ROOM = 145,
-    SB2_NEW_SHEET_ROOM = 157, /* two words more: a row and two bytes each */
     SB2_SHELF_ROOM = 16,
     SB2_SHELF_ROW = 8,
     SB2_SHELF_MOST = 64,
@@ -232,16 +230,13 @@ bool sb2_area_load(struct sb2_bytes area, struct sb2_state *state);
 /* Writes a state; its error code and count must fit a byte, the begun second's milliseconds two. */
 void sb2_area_store(const struct sb2_state *state, uint8_t area[SB2_AREA]);
 
-/* The five entries over an area. Bytes that are no area answer 1, and only answers that leave a state write it; a key
- * leaves none. */
+/* The four entries over an area. Bytes that are no area answer 1, and only answers that leave a state write it. */
 int sb2_area_set_up(uint8_t *area, size_t area_length, const struct sb2_set_up *in);
 bool sb2_area_sound(struct sb2_bytes area);
 int sb2_area_take_sample(uint8_t *area, size_t area_length, const struct sb2_sample *sample, uint8_t *room,
                          size_t room_length, size_t *length);
 int sb2_area_transact(uint8_t *area, size_t area_length, bool read, struct sb2_bytes message, struct sb2_bytes service,
                       struct sb2_bytes factory, uint8_t *room, size_t room_length, size_t *length);
-int sb2_area_pack_key(struct sb2_bytes area, struct sb2_bytes service, struct sb2_bytes factory, uint8_t *room,
-                      size_t room_length, size_t *length);
 
 /* ---- the charger */
 
@@ -394,11 +389,6 @@ int sb2_key_read(struct sb2_bytes key, struct sb2_key *parts);
  * room that is shorter than the plain name (rule: Key; a decision shared with the library). */
 int sb2_key_unescape(struct sb2_bytes name, uint8_t *room, size_t room_length, size_t *length);
 
-/* Writes a pack's key, of the names and words that its sheets list, a word else as set up: answers 0 with its length,
- * 1, 9 or 12 (rule: R-12). */
-int sb2_pack_key(const struct sb2_state *state, struct sb2_bytes service, struct sb2_bytes factory, uint8_t *room,
-                 size_t room_length, size_t *length);
-
 /* ---- pack sheets */
 
 /* A body for one tag, or none. */
@@ -407,68 +397,28 @@ struct sb2_body {
     struct sb2_bytes bytes;
 };
 
-/* A word for one tag, or none. */
-struct sb2_word {
-    bool given;
-    uint16_t word;
-};
-
-/* What a sheet lists, in order of the tags: date and serial (1B and 1C), then the names (20 to 23). The old form has no
- * words. */
-enum { SB2_TAGS = 6 };
-struct sb2_sheet {
-    bool is_new;
-    struct sb2_body bodies[SB2_TAGS]; /* parts of the sheet's bytes */
-};
-
-/* A body's place: a part of the service sheet or of the factory sheet. */
+/* A block name's place: a part of the service sheet or of the factory sheet. */
 struct sb2_block {
     bool in_service;
     struct sb2_part part;
 };
 
-/* Reads bytes of either form; false, and an empty sheet, if they are none (rules: Pack sheet; R-12). */
-bool sb2_sheet_read(struct sb2_bytes bytes, struct sb2_sheet *sheet);
+/* Writes a sheet of up to four bodies, tags 20 to 23: answers 0 with its length, or 12 (rule: Pack sheet). */
+int sb2_sheet_write(const struct sb2_body bodies[4], uint8_t *room, size_t room_length, size_t *length);
 
-/* Tells whether bytes are a sheet of the old form (rules: Pack sheet; R-12). */
-bool sb2_sheet_good(struct sb2_bytes bytes);
+/* Tells whether bytes are a sheet (rule: Pack sheet). */
+bool sb2_sheet_good(struct sb2_bytes sheet);
 
-/* Tells whether bytes are a sheet of the new form (rule: R-12). */
-bool sb2_sheet_new(struct sb2_bytes bytes);
-
-/* Writes a sheet of up to four names, tags 20 to 23: answers 0 with its length, or 12 (rule: Pack sheet). */
-int sb2_sheet_write(const struct sb2_body names[4], uint8_t *room, size_t room_length, size_t *length);
-
-/* Writes a new sheet, of the words 1B and 1C too: answers 0 with its length, or 12 (rule: R-12). */
-int sb2_sheet_write_new(const struct sb2_word words[2], const struct sb2_body names[4], uint8_t *room,
-                        size_t room_length, size_t *length);
-
-/* Finds a body in two sheets of either form: answers 0 with its place, or 9 if one is no sheet (rules: Pack sheet;
- * R-12). */
+/* Finds a block name: answers 0 with its place, or 9 if a sheet is bad (rule: Pack sheet). */
 int sb2_sheet_block(struct sb2_bytes service, struct sb2_bytes factory, uint8_t tag, struct sb2_block *block);
 
-/* The same with its bytes, none where neither sheet lists the tag (rules: Pack sheet; R-12). */
-int sb2_sheet_name(struct sb2_bytes service, struct sb2_bytes factory, uint8_t tag, struct sb2_bytes *name);
-
-/* The same of tag 1B or 1C: *word is what a sheet lists, and stays what it was where none does or the answer is 9
- * (rule: R-12). */
-int sb2_sheet_word(struct sb2_bytes service, struct sb2_bytes factory, uint8_t tag, uint16_t *word);
-
-/* Sets a body under a tag, adding or replacing it, in the sheet of either form that is the first `stated` bytes of a
- * room: answers 0 with the new length, or 9, 18, 19 or 20. What the new sheet leaves of the old one becomes 0 (rules:
- * R-9; R-12). */
+/* Sets a body under a tag, adding or replacing it, in the sheet that is the first `stated` bytes of a room: answers 0
+ * with the new length, or 9, 18, 19 or 20. What the new sheet leaves of the old one becomes 0 (rule: R-9). */
 int sb2_sheet_set(uint8_t *room, size_t room_length, size_t stated, uint8_t tag, struct sb2_bytes body, size_t *length);
 
 /* Removes the body under a tag, if there is one, from such a sheet: answers 0 with the new length, or 9 or 18. What is
- * left of the old sheet becomes 0 (rules: R-9; R-12). */
+ * left of the old sheet becomes 0 (rule: R-9). */
 int sb2_sheet_remove(uint8_t *room, size_t room_length, size_t stated, uint8_t tag, size_t *length);
-
-/* Writes an old sheet's bodies as a new sheet: answers 0 with its length, 9 for any other bytes, or 2 for a room that
- * is shorter (rule: R-12). */
-int sb2_sheet_to_new(struct sb2_bytes sheet, uint8_t *room, size_t room_length, size_t *length);
-
-/* Writes a new sheet's bodies as an old sheet: the same answers, and 21 if it lists a word, before 2 (rule: R-12). */
-int sb2_sheet_to_old(struct sb2_bytes sheet, uint8_t *room, size_t room_length, size_t *length);
 
 /* ---- captures */
 

@@ -7,14 +7,14 @@
 #include "snatchblock.h"
 
 /* One byte more than any sheet has, so that a longer file is seen. */
-enum { ROOM = SNATCHBLOCK_NEW_SHEET_ROOM + 1 };
+enum { ROOM = SNATCHBLOCK_SHEET_ROOM + 1 };
 
 /* Why an edit was refused, in words. */
 static const char *reason(enum snatchblock_answer answer)
 {
     switch (answer) {
     case SNATCHBLOCK_BAD_SHEET: return "the file is no sheet";
-    case SNATCHBLOCK_BAD_TAG: return "the tag isn't 20 to 23, nor 1B or 1C in a new sheet";
+    case SNATCHBLOCK_BAD_TAG: return "the tag isn't 20 to 23";
     case SNATCHBLOCK_LONG_BODY: return "the name is over 32 bytes";
     default: return "the sheet is too long"; /* never: any sheet fits this room */
     }
@@ -28,39 +28,20 @@ static uint8_t tag_of(const char *text)
     return *text != 0 && *end == 0 && tag < 256 ? (uint8_t)tag : 0;
 }
 
-static bool is_word(unsigned tag) { return tag == 0x1B || tag == 0x1C; }
-
-/* The two bytes of a word, low first, from a number in decimal or, after 0x, in hex, all of it. */
-static bool word_of(const char *text, uint8_t body[2])
-{
-    char *end;
-    errno = 0;
-    unsigned long word = strtoul(text, &end, 0);
-    body[0] = (uint8_t)(word & 0xFF);
-    body[1] = (uint8_t)(word >> 8 & 0xFF);
-    return *text >= '0' && *text <= '9' && *end == 0 && errno == 0 && word <= 0xFFFF;
-}
-
-/* A word in hex; of a name the bytes, those that don't print as dots. */
-static void show_body(unsigned tag, const uint8_t *body, size_t length)
-{
-    printf("%02x ", tag);
-    if (is_word(tag))
-        printf("0x%02X%02X", body[1], body[0]);
-    else
-        for (size_t i = 0; i < length; i++)
-            putchar(body[i] >= 0x20 && body[i] < 0x7F ? body[i] : '.');
-    putchar('\n');
-}
-
-/* Each tag that the sheet lists, with its word or its name. */
+/* Each tag that the sheet lists, with its name; bytes that don't print are dots. */
 static void show(const uint8_t *sheet, size_t length)
 {
     static const uint8_t none[] = {0};
-    for (unsigned tag = 0x1B; tag <= 0x23; tag++) {
+    for (unsigned tag = 0x20; tag <= 0x23; tag++) {
         uint64_t block = snatchblock_block(sheet, length, none, sizeof none, (uint8_t)tag);
-        if (!snatchblock_block_in_factory(block))
-            show_body(tag, sheet + snatchblock_block_offset(block), snatchblock_block_length(block));
+        if (snatchblock_block_in_factory(block))
+            continue;
+        printf("%02x ", tag);
+        for (size_t i = 0; i < snatchblock_block_length(block); i++) {
+            uint8_t b = sheet[snatchblock_block_offset(block) + i];
+            putchar(b >= 0x20 && b < 0x7F ? b : '.');
+        }
+        putchar('\n');
     }
 }
 
@@ -88,49 +69,29 @@ static int failed(const char *path, int why)
     return 1;
 }
 
-/* What the tag is to have: the name as it is, or the word of a number; false for no number. */
-static bool body_of(uint8_t tag, const char *text, uint8_t word[2], const uint8_t **body, size_t *size)
+int main(int count, char **words)
 {
-    *body = is_word(tag) ? word : (const uint8_t *)text;
-    *size = is_word(tag) ? 2 : strlen(text);
-    return !is_word(tag) || word_of(text, word);
-}
-
-static int edit(const char *path, uint8_t tag, const uint8_t *body, size_t size)
-{
+    if (count < 3 || count > 4) {
+        fputs("rename SHEET TAG [NAME]: the tag, 20 to 23, gets the name; with no NAME it is removed\n", stderr);
+        return 2;
+    }
     uint8_t room[ROOM];
-    FILE *file = fopen(path, "rb");
+    FILE *file = fopen(words[1], "rb");
     if (!file)
-        return failed(path, errno);
+        return failed(words[1], errno);
     size_t stated = fread(room, 1, sizeof room, file);
     (void)fclose(file);
-    uint32_t result = body ? snatchblock_set_body(room, sizeof room, stated, tag, body, size)
-                           : snatchblock_remove_body(room, sizeof room, stated, tag);
+    uint8_t tag = tag_of(words[2]);
+    uint32_t result = count == 3 ? snatchblock_remove_body(room, sizeof room, stated, tag)
+                                 : snatchblock_set_body(room, sizeof room, stated, tag, (const uint8_t *)words[3],
+                                                        strlen(words[3]));
     if (!snatchblock_served(result)) {
         fprintf(stderr, "rename: %u: %s\n", (unsigned)snatchblock_answer_of(result), reason(snatchblock_answer_of(result)));
         return 1;
     }
-    int why = store(path, room, snatchblock_length_of(result));
+    int why = store(words[1], room, snatchblock_length_of(result));
     if (why != 0)
-        return failed(path, why);
+        return failed(words[1], why);
     show(room, snatchblock_length_of(result));
     return 0;
-}
-
-int main(int count, char **words)
-{
-    if (count < 3 || count > 4) {
-        fputs("rename SHEET TAG [NAME]: the tag, 20 to 23, gets the name, in a new sheet 1B or 1C the number;\n"
-              "with no NAME it is removed\n", stderr);
-        return 2;
-    }
-    uint8_t tag = tag_of(words[2]);
-    uint8_t word[2];
-    const uint8_t *body = NULL;
-    size_t size = 0;
-    if (count == 4 && !body_of(tag, words[3], word, &body, &size)) {
-        fprintf(stderr, "rename: %s: not a number from 0 to 65535\n", words[3]);
-        return 2;
-    }
-    return edit(words[1], tag, body, size);
 }

@@ -503,9 +503,6 @@ static void long_bytes_of(uint8_t byte, size_t length)
     CHECK(snatchblock_unescape(bytes, length, room, ROOM_MOST), 13);
     CHECK(snatchblock_read_key(bytes, length), 13);
     CHECK(snatchblock_is_sheet(bytes, length), false);
-    CHECK(snatchblock_is_new_sheet(bytes, length), false);
-    CHECK(snatchblock_sheet_to_new(bytes, length, room, ROOM_MOST), 9);
-    CHECK(snatchblock_sheet_to_old(bytes, length, room, ROOM_MOST), 9);
     CHECK(snatchblock_open_capture(bytes, length), 14);
     CHECK(snatchblock_exchange_check(bytes, length), 15);
     CHECK(snatchblock_sound(bytes, length), false);
@@ -516,7 +513,7 @@ static void long_bytes_of(uint8_t byte, size_t length)
 
 static void long_bytes(void)
 {
-    static const uint8_t all[] = {0x00, 0x2F, 0x5C, 0x41, 0x80};
+    static const uint8_t all[] = {0x00, 0x2F, 0x5C, 0x41};
     static const size_t lengths[] = {1 << 10, 1 << 16, 1 << 20, (1 << 24) - 2, (1 << 24) - 1, 1 << 24};
     for (size_t i = 0; i < sizeof all; i++)
         for (size_t j = 0; j < sizeof lengths / sizeof *lengths; j++)
@@ -876,10 +873,9 @@ static void answer_names(void)
         SNATCHBLOCK_WRONG_FORM, SNATCHBLOCK_WRONG_PEC, SNATCHBLOCK_RESERVED_COMMAND, SNATCHBLOCK_COMMAND_NOT_BUILT,
         SNATCHBLOCK_READ_ONLY, SNATCHBLOCK_BAD_SHEET, SNATCHBLOCK_SERVED_CUT_OFF, SNATCHBLOCK_BAD_SET_UP,
         SNATCHBLOCK_NO_FIT, SNATCHBLOCK_NOT_A_KEY, SNATCHBLOCK_NOT_A_CAPTURE, SNATCHBLOCK_WRONG_LENGTH,
-        SNATCHBLOCK_TOO_MANY_ROWS, SNATCHBLOCK_BAD_ROW, SNATCHBLOCK_BAD_TAG, SNATCHBLOCK_LONG_BODY,
-        SNATCHBLOCK_LONG_SHEET, SNATCHBLOCK_LISTS_WORD};
-    CHECK(sizeof names / sizeof *names, 22);
-    for (unsigned i = 0; i < 22; i++)
+        SNATCHBLOCK_TOO_MANY_ROWS, SNATCHBLOCK_BAD_ROW};
+    CHECK(sizeof names / sizeof *names, 18);
+    for (unsigned i = 0; i < 18; i++)
         CHECK(names[i], i);
     CHECK(SNATCHBLOCK_VERSION, 4);
 }

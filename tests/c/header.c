@@ -5,7 +5,7 @@
 #include <stdio.h>
 
 static uint8_t area[SNATCHBLOCK_AREA];
-static uint8_t room[SNATCHBLOCK_NEW_SHEET_ROOM];
+static uint8_t room[SNATCHBLOCK_SHEET_ROOM];
 static const uint8_t no_names[1] = {0};
 
 static struct snatchblock_setup setup_of_a_pack(void)
@@ -113,28 +113,6 @@ static bool sheets_answer(void)
            snatchblock_block_offset(block) == 5 && !snatchblock_block_in_factory(block);
 }
 
-/* A new sheet of a serial and a name: 15 bytes. The key shows both, but the old form has no words; without it, it moves
- * back and forth. */
-static bool new_sheets_answer(void)
-{
-    uint8_t sheet[SNATCHBLOCK_NEW_SHEET_ROOM], moved[SNATCHBLOCK_NEW_SHEET_ROOM];
-    uint32_t result = snatchblock_write_new_sheet(sheet, sizeof sheet, false, 0, true, 17, true, name, 4, false, name,
-                                                  0, false, name, 0, false, name, 0);
-    size_t length = snatchblock_length_of(result);
-    if (length != 15 || !snatchblock_is_new_sheet(sheet, length) || snatchblock_is_sheet(sheet, length))
-        return false;
-    result = snatchblock_pack_key(area, sizeof area, sheet, length, no_names, 1, room, SNATCHBLOCK_KEY_ROOM);
-    if (snatchblock_key_serial(snatchblock_read_key(room, snatchblock_length_of(result))) != 17)
-        return false;
-    result = snatchblock_sheet_to_old(sheet, length, room, sizeof room);
-    if (snatchblock_answer_of(result) != SNATCHBLOCK_LISTS_WORD)
-        return false;
-    result = snatchblock_remove_body(sheet, sizeof sheet, length, 0x1C);
-    result = snatchblock_sheet_to_old(sheet, snatchblock_length_of(result), moved, sizeof moved);
-    result = snatchblock_sheet_to_new(moved, snatchblock_length_of(result), room, sizeof room);
-    return snatchblock_length_of(result) == 9 && moved[0] == 1 && room[0] == 0x81;
-}
-
 /* A name of 4 bytes more, and then the first removed: of 9 bytes 17, and 9 again. */
 static bool edits_answer(void)
 {
@@ -174,7 +152,7 @@ static bool shelf_answers(void)
 int main(void)
 {
     if (pack_answers() && charger_answers() && thirteen_answers() && messages_answer() && keys_answer() &&
-        sheets_answer() && new_sheets_answer() && edits_answer() && captures_answer() && shelf_answers())
+        sheets_answer() && edits_answer() && captures_answer() && shelf_answers())
         return 0;
     printf("header: an answer is wrong\n");
     return 1;

@@ -24,7 +24,7 @@ static uint64_t seed, sequences, calls, struck_calls;
 /* ---- a sequence */
 
 struct sheet {
-    uint8_t bytes[SB2_NEW_SHEET_ROOM];
+    uint8_t bytes[SB2_SHEET_ROOM];
     size_t length;
 };
 enum { SHEETS = 8 };
@@ -338,21 +338,17 @@ static struct outcome play(const struct event *e)
 
 /* ---- what is played */
 
-/* A sheet of some names, of the new form with some words, at times bent so that it may be none. */
+/* A sheet of some names, at times bent so that it may be none. */
 static void make_sheet(struct sheet *sheet)
 {
     uint8_t names[4][SB2_NAME_MOST];
     struct sb2_body bodies[4];
-    const struct sb2_word words[2] = {{one_in(2), some_word()}, {one_in(2), some_word()}};
     for (size_t i = 0; i < 4; i++) {
         size_t length = below(SB2_NAME_MOST + 1);
         fill(names[i], length);
         bodies[i] = (struct sb2_body){!one_in(3), bytes_of(names[i], length)};
     }
-    if (one_in(2))
-        (void)sb2_sheet_write_new(words, bodies, sheet->bytes, sizeof sheet->bytes, &sheet->length);
-    else
-        (void)sb2_sheet_write(bodies, sheet->bytes, sizeof sheet->bytes, &sheet->length);
+    (void)sb2_sheet_write(bodies, sheet->bytes, sizeof sheet->bytes, &sheet->length);
     if (one_in(4))
         bend_sheet(sheet->bytes);
 }
@@ -465,8 +461,8 @@ static void make_write(struct event *e, uint8_t address, uint8_t command, uint16
 /* Much that leaves an error code, that shows it, and that starts and ends a hold. */
 static void make_pack_call(struct event *e)
 {
-    static const uint8_t leaves_code[] = {0x05, 0x06, 0x11, 0x12, 0x13, 0x1B, 0x1C, 0x1D, 0x20,
-                                          0x21, 0x22, 0x23, 0x24, 0x2F, 0x3C, 0x3D, 0x3E, 0x3F};
+    static const uint8_t leaves_code[] = {0x05, 0x06, 0x11, 0x12, 0x13, 0x1D, 0x20, 0x21,
+                                          0x22, 0x23, 0x24, 0x2F, 0x3C, 0x3D, 0x3E, 0x3F};
     e->room = room_size(SB2_REPLY_ROOM);
     e->service = &sheets[below(SHEETS)];
     e->factory = &sheets[below(SHEETS)];
@@ -534,8 +530,7 @@ enum { GAPS = 6 };
 enum class {
     CHOSEN, STRUCK_READ = CHOSEN + KINDS * CHOICES, STRUCK_WRITE = STRUCK_READ + KINDS * ANSWERS,
     STRUCK_SAMPLE = STRUCK_WRITE + KINDS * ANSWERS, STRUCK_COMMAND, STAYING_COMMAND = STRUCK_COMMAND + 64,
-    LISTED = STAYING_COMMAND + 64,
-    WRITTEN = LISTED + 2 * 2, IN_HOLD = WRITTEN + 5, IN_RUN = IN_HOLD + 2, BETWEEN_ALARMS, HOLD_STARTS,
+    WRITTEN = STAYING_COMMAND + 64, IN_HOLD = WRITTEN + 5, IN_RUN = IN_HOLD + 2, BETWEEN_ALARMS, HOLD_STARTS,
     HOLD_ENDED, HOLD_RAN_OUT, CLOSED, RUN_OPENS, RUN_ENDS, CYCLED, BIT_4_SET, BIT_4_CLEARED, ALARM_STARTS, ALARM_ENDS,
     WRAPPED, GAP_OF = WRAPPED + KINDS, SENT = GAP_OF + KINDS * GAPS, SHOWN_OTHER = SENT + 2 * 5,
     SHOWN_SAME = SHOWN_OTHER + 3, END_CODE = SHOWN_SAME + 2, C_COUNTED_OUT = END_CODE + KINDS, C_STOPPED, C_STARTED,
@@ -613,14 +608,6 @@ static void note_pack_sample(const struct sb2_state *was, const struct outcome *
         strikes.hold = 0;
 }
 
-/* Whose word a read of 1B or 1C showed: set-up's, or that of a sheet. */
-static void note_word(const struct event *e, const struct sb2_state *was, const struct outcome *now)
-{
-    bool date = e->bytes[1] == 0x1B;
-    uint16_t word = (uint16_t)(now->bytes[0] | now->bytes[1] << 8);
-    came[LISTED + 2u * !date + (word != (date ? was->settings.manufacture_date : was->settings.serial_number))]++;
-}
-
 /* What a write did to the hold, or which code a read of BatteryStatus showed the first time and now. */
 static void note_pack_call(const struct event *e, const struct sb2_state *was, const struct outcome *full,
                            const struct outcome *now)
@@ -629,8 +616,6 @@ static void note_pack_call(const struct event *e, const struct sb2_state *was, c
     if (strikes.all == 0)
         return;
     came[e->read ? STAYING_COMMAND + e->bytes[1] : WRITTEN + e->bytes[1]]++;
-    if (e->read && (e->bytes[1] == 0x1B || e->bytes[1] == 0x1C))
-        note_word(e, was, now);
     if (e->read && e->bytes[1] == 0x16)
         came[before == code ? SHOWN_SAME + (code > 0) : SHOWN_OTHER + (before == 0 ? 0 : code == 0 ? 1 : 2)]++;
     if (e->read || e->bytes[1] != 0x03)
@@ -860,7 +845,6 @@ static const struct {
     {"and of 20 to 23", STRUCK_COMMAND + 0x20, STRUCK_COMMAND + 0x23},
     {"after strikes: reads of 00 to 1C that stay", STAYING_COMMAND, STAYING_COMMAND + 0x1C},
     {"and of 20 to 23", STAYING_COMMAND + 0x20, STAYING_COMMAND + 0x23},
-    {"1B, 1C: set-up's word, a sheet's", LISTED, LISTED + 3},
     {"writes to 00 to 04", WRITTEN, WRITTEN + 4},
     {"BatteryStatus: a code for 0, 0 for a code, another", SHOWN_OTHER, SHOWN_OTHER + 2},
     {"the same code: 0, another", SHOWN_SAME, SHOWN_SAME + 1},

@@ -150,12 +150,11 @@ static void expect(bool holds, const char *what)
 
 /* ---- classes */
 
-enum { ANSWERS = 22 };
+enum { ANSWERS = 21 };
 enum entry {
-    SET_UP, SOUND, SAMPLE, TRANSACT, PEC, EXCHANGE, BITS, WRITE_KEY, PACK_KEY, READ_KEY, UNESCAPE, WRITE_SHEET,
-    WRITE_NEW_SHEET, IS_SHEET, IS_NEW_SHEET, BLOCK, SET_BODY, REMOVE_BODY, TO_NEW, TO_OLD, OPEN, STEP, SHELF, SHELF_FROM,
-    CHARGER_SET_UP, CHARGER_SOUND, CHARGER_SAMPLE, CHARGER_TRANSACT, CHARGER_CURRENT, THIRTEEN_SET_UP, THIRTEEN_SOUND,
-    THIRTEEN_SAMPLE, THIRTEEN_TRANSACT, ENTRIES
+    SET_UP, SOUND, SAMPLE, TRANSACT, PEC, EXCHANGE, BITS, WRITE_KEY, READ_KEY, UNESCAPE, WRITE_SHEET, IS_SHEET, BLOCK,
+    SET_BODY, REMOVE_BODY, OPEN, STEP, SHELF, SHELF_FROM, CHARGER_SET_UP, CHARGER_SOUND, CHARGER_SAMPLE,
+    CHARGER_TRANSACT, CHARGER_CURRENT, THIRTEEN_SET_UP, THIRTEEN_SOUND, THIRTEEN_SAMPLE, THIRTEEN_TRANSACT, ENTRIES
 };
 static const struct {
     const char *name;
@@ -169,18 +168,13 @@ static const struct {
     [EXCHANGE] = {"exchange_check", 1u << 0 | 1u << 15},
     [BITS] = {"bit_comparison", 1u << 0 | 1u << 15},
     [WRITE_KEY] = {"write_key", 1u << 0 | 1u << 12},
-    [PACK_KEY] = {"pack_key", 1u << 0 | 1u << 1 | 1u << 9 | 1u << 12},
     [READ_KEY] = {"read_key", 1u << 0 | 1u << 13},
     [UNESCAPE] = {"unescape", 1u << 0 | 1u << 12 | 1u << 13},
     [WRITE_SHEET] = {"write_sheet", 1u << 0 | 1u << 12},
-    [WRITE_NEW_SHEET] = {"write_new_sheet", 1u << 0 | 1u << 12},
     [IS_SHEET] = {"is_sheet (0 false, 1 true)", 3},
-    [IS_NEW_SHEET] = {"is_new_sheet (0 false, 1 true)", 3},
     [BLOCK] = {"block", 1u << 0 | 1u << 9},
     [SET_BODY] = {"set_body", 1u << 0 | 1u << 9 | 1u << 18 | 1u << 19 | 1u << 20},
     [REMOVE_BODY] = {"remove_body", 1u << 0 | 1u << 9 | 1u << 18},
-    [TO_NEW] = {"sheet_to_new", 1u << 0 | 1u << 2 | 1u << 9},
-    [TO_OLD] = {"sheet_to_old", 1u << 0 | 1u << 2 | 1u << 9 | 1u << 21},
     [OPEN] = {"open_capture", 1u << 0 | 1u << 14},
     [STEP] = {"step_capture", 1u << 0 | 1u << 14},
     [SHELF] = {"shelf_report", 1u << 0 | 1u << 2 | 1u << 4 | 1u << 16 | 1u << 17},
@@ -201,15 +195,7 @@ static uint64_t came[ENTRIES][ANSWERS];
  * total. */
 enum { T_EDGES = 11, T_BEND_TOTALS = 24, T_BENDS = T_BEND_TOTALS + 8 };
 
-/* What a sheet of either form is lent to, right or damaged in each way: first what takes two, each once as the service
- * sheet and once as the factory sheet. */
-enum use {
-    IN_BLOCK, IN_READ_1B, IN_READ_1C, IN_READ_NAME, IN_KEY, IN_PAIRS, IN_TEST = 2 * IN_PAIRS, IN_SET, IN_REMOVE,
-    IN_TO_NEW, IN_TO_OLD, IN_USES
-};
-
-/* Classes beside the answers. Those of a mode stand twice, in mAh and in power mode; those of edits, in old and in new
- * sheets. */
+/* Classes beside the answers. Those of a mode stand twice, in mAh and in power mode. */
 enum other {
     READ_SERVED, WRITE_SERVED = READ_SERVED + 2 * 64, TIME_IN_MAH = WRITE_SERVED + 2 * 5, TIME_IN_POWER = TIME_IN_MAH + 15,
     FULL_IN_POWER = TIME_IN_POWER + 12, BORDER_IN_MAH = FULL_IN_POWER + 3, BORDER_IN_POWER = BORDER_IN_MAH + 5 * 4,
@@ -242,17 +228,10 @@ enum other {
     C_COUNT = C_COUNT_TO + 4, C_FLAG = C_COUNT + 5, C_LENGTH = C_FLAG + 5 * 4, C_ROOM = C_LENGTH + 5 * 5,
     C_COMMAND = C_ROOM + 2 * 5, C_ADDRESS = C_COMMAND + 2 * 256, C_FORM = C_ADDRESS + 5, C_BOTH = C_FORM + 3,
     C_ALTERED = C_BOTH + 21, C_DELIVERED = C_ALTERED + 4, C_STOPPED = C_DELIVERED + 2 * 4, C_STARTED = C_STOPPED + 2,
-    E_SET, E_REMOVED = E_SET + 5 * 4, E_ABSENT = E_REMOVED + 4, E_TAGS, E_BY = E_TAGS + 2 * 64 * 6, E_BODY = E_BY + 73,
-    E_LONG = E_BODY + 33, E_WORD = E_LONG + 3, E_TAG = E_WORD + 2 * 6, E_FULL = E_TAG + 2 * 5, E_OVER = E_FULL + 153,
-    E_SERVED = E_OVER + 153, E_REFUSED = E_SERVED + 173, E_STATED = E_REFUSED + 173, E_CUT = E_STATED + 2 * 6,
-    E_BENT = E_CUT + 2, E_ORDER = E_BENT + 3, E_END = E_ORDER + 6, F_DAMAGED = 2 * E_END - E_SET,
-    F_WRITTEN = F_DAMAGED + IN_USES * 2 * SHEET_DAMAGES, F_ROOM = F_WRITTEN + 16 + 64, F_LONGEST = F_ROOM + 2 * 7,
-    F_BLOCK = F_LONGEST + 2, F_BLOCK_OF = F_BLOCK + 6 * 4, F_READ = F_BLOCK_OF + 6 * 4, F_READ_OF = F_READ + 6 * 4,
-    F_BAD = F_READ_OF + 6 * 4, F_TELLS = F_BAD + 6 * 3, F_BLIND = F_TELLS + 2 * 3, F_BLIND_WRITE = F_BLIND + 0x1B,
-    M_ROOM = F_BLIND_WRITE + 5, M_OTHER = M_ROOM + 2 * 6, M_WORD = M_OTHER + 2, M_BOTH = M_WORD + 3,
-    M_BACK = M_BOTH + 3, K_LISTED = M_BACK + 2 * 16, K_OF = K_LISTED + 4 * 4, K_BAD = K_OF + 4, K_NO_AREA = K_BAD + 3,
-    K_ROOM = K_NO_AREA + 6, K_BOTH = K_ROOM + 6, K_CODE = K_BOTH + 3, K_NAME = K_CODE + 4,
-    T_READ = K_NAME + 3, T_COMMAND = T_READ + 22, T_WRITE = T_COMMAND + 256,
+    E_SET, E_REMOVED = E_SET + 5 * 4, E_ABSENT = E_REMOVED + 4, E_TAGS, E_BY = E_TAGS + 2 * 16 * 4, E_BODY = E_BY + 73,
+    E_LONG = E_BODY + 33, E_TAG = E_LONG + 3, E_FULL = E_TAG + 2 * 3, E_OVER = E_FULL + 141, E_SERVED = E_OVER + 141,
+    E_REFUSED = E_SERVED + 161, E_STATED = E_REFUSED + 161, E_CUT = E_STATED + 2 * 6, E_BENT = E_CUT + 2,
+    E_ORDER = E_BENT + 2, T_READ = E_ORDER + 6, T_COMMAND = T_READ + 22, T_WRITE = T_COMMAND + 256,
     T_FOUR = T_WRITE + 256, T_WRONG = T_FOUR + 256, T_STATUS_SET = T_WRONG + 256, T_STATUS_CLEAR = T_STATUS_SET + 16,
     T_EDGE = T_STATUS_CLEAR + 16, T_DEGREES = T_EDGE + 3 * T_EDGES, T_CURRENT = T_DEGREES + 18,
     T_VOLTAGE = T_CURRENT + 7, T_CELL = T_VOLTAGE + 4, T_TIME = T_CELL + 13, T_TIME_BORDER = T_TIME + 6,
@@ -275,7 +254,7 @@ static uint8_t state_area[AREA_MOST]; /* the pack's area between calls */
 static unsigned long since_full;      /* samples since set-up or the last one at full */
 static size_t sent_bytes;             /* by the latest sample */
 static int answered;                  /* to the latest message */
-static uint8_t service[SHEET_BYTES], factory[SHEET_BYTES];
+static uint8_t service[145], factory[145];
 static size_t service_length, factory_length;
 
 /* Mostly the right size; at times another, those of versions 1 to 3 among them. */
@@ -645,76 +624,6 @@ static void note_word(uint8_t command, bool power, uint16_t word, int answer)
         other[(word >> bit & 1 ? STATUS_SET : STATUS_CLEAR) + bit]++;
 }
 
-/* ---- what two sheets list */
-
-struct pair {
-    bool good[2];
-    struct sb2_sheet sheet[2];
-};
-
-static struct pair pair_of(struct sb2_bytes service_sheet, struct sb2_bytes factory_sheet)
-{
-    struct pair pair;
-    pair.good[0] = sb2_sheet_read(service_sheet, &pair.sheet[0]);
-    pair.good[1] = sb2_sheet_read(factory_sheet, &pair.sheet[1]);
-    return pair;
-}
-
-static struct pair lent_pair(void)
-{
-    return pair_of(bytes_of(service, service_length), bytes_of(factory, factory_length));
-}
-
-/* Where the tag at a place is listed, in neither, either or both, and of which forms the two sheets are. */
-static void note_listed(size_t listed, size_t forms, const struct pair *pair, size_t i)
-{
-    other[listed + 4 * i + pair->sheet[0].bodies[i].given + 2u * pair->sheet[1].bodies[i].given]++;
-    other[forms + 4 * i + 2u * pair->sheet[0].is_new + pair->sheet[1].is_new]++;
-}
-
-/* Which of two sheets is none: the first, the second, both. */
-static unsigned bad_one(const struct pair *pair)
-{
-    return pair->good[1] ? 0 : pair->good[0] ? 1 : 2;
-}
-
-static uint16_t body_word(struct sb2_body body)
-{
-    return (uint16_t)(body.bytes.at[0] | body.bytes.at[1] << 8);
-}
-
-/* Words that tell one origin from another, and the order of their bytes: the sheets list two, it isn't set-up's, its
- * bytes differ. */
-static void note_told(const struct pair *pair, size_t i, uint16_t word)
-{
-    const struct sb2_body *one = &pair->sheet[0].bodies[i], *two = &pair->sheet[1].bodies[i];
-    if (one->given && two->given && body_word(*one) != body_word(*two))
-        other[F_TELLS + 3 * i]++;
-    if ((one->given || two->given) && word != number_at(SNATCHBLOCK_SETTINGS + 6 + 2 * i, 2))
-        other[F_TELLS + 3 * i + 1]++;
-    if ((one->given || two->given) && word % 256 != word / 256)
-        other[F_TELLS + 3 * i + 2]++;
-}
-
-/* What a transaction found in the sheets, where it looks at them; and that others are served beside bad ones. */
-static void note_sheets(bool read, uint8_t command, int answer)
-{
-    struct pair pair = lent_pair();
-    size_t i = tag_place(command);
-    bool good = pair.good[0] && pair.good[1];
-    if (answer == SB2_BAD_SHEET) {
-        other[F_BAD + 3 * i + bad_one(&pair)]++;
-    } else if (i < SB2_TAGS) {
-        note_listed(F_READ, F_READ_OF, &pair, i);
-        if (i < FIRST_NAME)
-            note_told(&pair, i, (uint16_t)(room.s[0] | room.s[1] << 8));
-    } else if (!good) {
-        other[read ? F_BLIND + command : F_BLIND_WRITE + command]++;
-    }
-}
-
-/* ---- transactions */
-
 static void play_message_in(size_t room_length, const uint8_t *message, size_t message_length, bool read, size_t length)
 {
     lend_area(state_area, length);
@@ -737,8 +646,6 @@ static void play_message_in(size_t room_length, const uint8_t *message, size_t m
         if (read && message[1] < 0x20)
             note_word(message[1], power, (uint16_t)(room.s[0] | room.s[1] << 8), answer);
     }
-    if (answer == SB2_SERVED || answer >= SB2_BAD_SHEET)
-        note_sheets(read, message[1], answer);
     answered = answer;
     keep_area();
 }
@@ -765,134 +672,62 @@ static void play_transact(bool whole)
 
 /* ---- sheets */
 
-static uint8_t made_sheet[SHEET_BYTES];
+static uint8_t made_sheet[145];
 
-/* The room of a writer: none, about the old form's and the new one's, others. */
-static unsigned room_class(size_t room_length)
+/* Writes a sheet of these bodies by both programs; gives its length, 0 if refused. */
+static size_t play_write_bodies(const struct sb2_body given[4], size_t room_length)
 {
-    static const size_t sizes[6] = {0, SB2_SHEET_ROOM - 1, SB2_SHEET_ROOM, SB2_NEW_SHEET_ROOM - 1, SB2_NEW_SHEET_ROOM,
-                                    SB2_NEW_SHEET_ROOM + 1};
-    unsigned class = 0;
-    while (class < 6 && sizes[class] != room_length)
-        class++;
-    return class;
-}
-
-/* Keeps what both wrote, and notes what the sheet lists. */
-static size_t keep_written(bool is_new, unsigned listed, int answer, size_t length)
-{
-    other[F_ROOM + 7u * is_new + room_class(room.length)]++;
-    if (answer == SB2_SERVED)
-        other[F_WRITTEN + (is_new ? 16 : 0) + listed]++;
-    if (length == (is_new ? SB2_NEW_SHEET_ROOM : SB2_SHEET_ROOM))
-        other[F_LONGEST + is_new]++;
+    struct sb2_body bodies[4];
+    size_t length;
+    lend_room(room_length);
+    begin("write_sheet (four bodies)", 4, NO_AREA, true);
+    for (int i = 0; i < 4; i++) {
+        bodies[i].given = given[i].given;
+        bodies[i].bytes = lend(i, given[i].bytes.at, given[i].bytes.length);
+        note(bodies[i].given);
+    }
+    uint32_t proved = snatchblock_write_sheet(
+        room.p, room.length, bodies[0].given, bodies[0].bytes.at, bodies[0].bytes.length, bodies[1].given,
+        bodies[1].bytes.at, bodies[1].bytes.length, bodies[2].given, bodies[2].bytes.at, bodies[2].bytes.length,
+        bodies[3].given, bodies[3].bytes.at, bodies[3].bytes.length);
+    int answer = sb2_sheet_write(bodies, room.s, room.length, &length);
+    compare(proved, (uint32_t)answer | (uint32_t)length << 8);
+    came_up(WRITE_SHEET, (uint32_t)answer);
     memcpy(made_sheet, room.s, length);
     return length;
 }
 
-/* Lends the four names that a writer is given, and tells which are there. */
-static unsigned lend_names(const struct sb2_body given[4], struct sb2_body names[4])
-{
-    unsigned listed = 0;
-    for (unsigned i = 0; i < 4; i++) {
-        names[i].given = given[i].given;
-        names[i].bytes = lend((int)i, given[i].bytes.at, given[i].bytes.length);
-        note(names[i].given);
-        listed |= (unsigned)names[i].given << i;
-    }
-    return listed;
-}
-
-/* Writes an old sheet of these names by both programs; gives its length, 0 if refused. */
-static size_t play_write_old(const struct sb2_body given[4], size_t room_length)
-{
-    struct sb2_body names[4];
-    size_t length;
-    lend_room(room_length);
-    begin("write_sheet (four bodies)", 4, NO_AREA, true);
-    unsigned listed = lend_names(given, names);
-    uint32_t proved = proved_write_sheet(room.p, room.length, names);
-    int answer = sb2_sheet_write(names, room.s, room.length, &length);
-    compare(proved, (uint32_t)answer | (uint32_t)length << 8);
-    came_up(WRITE_SHEET, (uint32_t)answer);
-    return keep_written(false, listed, answer, length);
-}
-
-/* The same of a new one, with these words. */
-static size_t play_write_new(const struct sb2_word words[2], const struct sb2_body given[4], size_t room_length)
-{
-    struct sb2_body names[4];
-    size_t length;
-    lend_room(room_length);
-    begin("write_new_sheet (four bodies)", 4, NO_AREA, true);
-    unsigned listed = words[0].given | (unsigned)words[1].given << 1 | lend_names(given, names) << FIRST_NAME;
-    note(words[0].given), note(words[0].word), note(words[1].given), note(words[1].word);
-    uint32_t proved = proved_write_new_sheet(room.p, room.length, words, names);
-    int answer = sb2_sheet_write_new(words, names, room.s, room.length, &length);
-    compare(proved, (uint32_t)answer | (uint32_t)length << 8);
-    came_up(WRITE_NEW_SHEET, (uint32_t)answer);
-    return keep_written(true, listed, answer, length);
-}
-
-/* Six bodies in a sheet of a form; the words' have two bytes. */
-static size_t play_write_bodies(bool is_new, const struct sb2_body bodies[SB2_TAGS], size_t room_length)
-{
-    struct sb2_word words[2];
-    if (!is_new)
-        return play_write_old(bodies + FIRST_NAME, room_length);
-    for (size_t i = 0; i < FIRST_NAME; i++) {
-        words[i].given = bodies[i].given;
-        words[i].word = bodies[i].given ? (uint16_t)(bodies[i].bytes.at[0] | bodies[i].bytes.at[1] << 8) : some_word();
-    }
-    return play_write_new(words, bodies + FIRST_NAME, room_length);
-}
-
-/* Random bodies in a room; those that aren't there have bytes too. */
-static size_t play_write_in(size_t room_length, bool likely, bool is_new)
+/* Random bodies. */
+static size_t play_write_sheet(bool likely)
 {
     struct sb2_body bodies[4];
-    const struct sb2_word words[2] = {{one_in(2), some_word()}, {one_in(2), some_word()}};
     uint8_t body[4][80];
-    bool longest = one_in(8);
     for (int i = 0; i < 4; i++) {
-        bodies[i].given = longest || !one_in(3);
-        size_t length = longest ? SB2_NAME_MOST : likely || !one_in(12) ? below(33) : 30 + below(40);
+        bodies[i].given = !one_in(3);
+        size_t length = likely || !one_in(12) ? below(33) : 30 + below(40);
         fill(body[i], length);
         bodies[i].bytes = bytes_of(body[i], length);
     }
-    return is_new ? play_write_new(words, bodies, room_length) : play_write_old(bodies, room_length);
+    return play_write_bodies(bodies, likely ? SB2_SHEET_ROOM : room_size(SB2_SHEET_ROOM));
 }
 
-static size_t play_write_sheet(bool likely, bool is_new)
+/* A sheet, mostly good, put at `at`; gives its length. */
+static size_t some_sheet(uint8_t at[145])
 {
-    size_t least = is_new ? SB2_NEW_SHEET_ROOM : SB2_SHEET_ROOM;
-    return play_write_in(likely ? least : room_size(least), likely, is_new);
-}
-
-/* Both forms in each room about the borders of both. */
-static void play_write_rooms(void)
-{
-    for (size_t room_length = SB2_SHEET_ROOM - 2; room_length <= SB2_NEW_SHEET_ROOM + 2; room_length++)
-        for (int i = 0; i < 2; i++)
-            (void)play_write_in(room_length, true, i == 1);
-    (void)play_write_in(0, true, false);
-    (void)play_write_in(0, true, true);
-}
-
-/* A sheet of either form, mostly good, put at `at`; gives its length. */
-static size_t some_sheet(uint8_t at[SHEET_BYTES])
-{
-    bool is_new = one_in(2);
-    at[0] = is_new ? NEW_MARK : 0;
+    at[0] = 0;
     if (one_in(4))
         return 1;
-    size_t length = play_write_sheet(true, is_new);
+    size_t length = play_write_sheet(true);
     memcpy(at, made_sheet, length);
     switch (below(12)) {
     case 0: at[below((uint32_t)length)] ^= (uint8_t)(1u << below(8)); return length;
     case 1: return below((uint32_t)length);
     case 2: case 3: case 4: bend_sheet(at); return length;
-    case 5: at[length] = (uint8_t)draw(); return length + 1;
+    case 5:
+        if (length == 145)
+            return length;
+        at[length] = (uint8_t)draw();
+        return length + 1;
     default: return length;
     }
 }
@@ -911,59 +746,42 @@ static uint64_t play_block(struct sb2_bytes service_sheet, struct sb2_bytes fact
     compare(proved, (uint64_t)answer | (uint64_t)block.part.length << 8 | (uint64_t)block.part.offset << 16 |
                         (uint64_t)(answer == 0 && !block.in_service) << 32);
     came_up(BLOCK, (uint64_t)answer);
-    if (answer == SB2_SERVED) {
-        struct pair pair = pair_of(s, f);
+    if (answer == SB2_SERVED)
         other[block.in_service ? BLOCK_SERVICE : block.part.offset ? BLOCK_FACTORY : BLOCK_NEITHER]++;
-        if (tag_place(tag) < SB2_TAGS)
-            note_listed(F_BLOCK, F_BLOCK_OF, &pair, tag_place(tag));
-    }
     return proved;
-}
-
-/* Whether bytes are a sheet of either form, by both programs. */
-static enum sheet_form play_test(const uint8_t *at, size_t length)
-{
-    struct sb2_bytes sheet = lend(0, at, length);
-    begin("is_sheet", 1, NO_AREA, false);
-    bool is_old = sb2_sheet_good(sheet);
-    compare(snatchblock_is_sheet(sheet.at, sheet.length), is_old);
-    came_up(IS_SHEET, is_old);
-    begin("is_new_sheet", 1, NO_AREA, false);
-    bool is_new = sb2_sheet_new(sheet);
-    compare(snatchblock_is_new_sheet(sheet.at, sheet.length), is_new);
-    came_up(IS_NEW_SHEET, is_new);
-    expect(!(is_old && is_new), "both forms");
-    return is_old ? OLD_SHEET : is_new ? NEW_SHEET : NO_SHEET;
 }
 
 static void play_sheets(void)
 {
     for (int i = 0; i < 4; i++)
-        (void)play_write_sheet(false, i % 2 == 1);
+        (void)play_write_sheet(false);
     service_length = some_sheet(service);
     factory_length = some_sheet(factory);
     if (one_in(8)) { /* one body of 32 or 33 bytes, which are there */
-        const uint8_t row[5] = {(uint8_t)(one_in(2) ? 1 : NEW_MARK + 1), (uint8_t)(0x1F + below(6)),
-                                (uint8_t)(32 + below(2)), 5, 0};
+        const uint8_t row[5] = {1, (uint8_t)(0x1F + below(6)), (uint8_t)(32 + below(2)), 5, 0};
         memcpy(service, row, sizeof row);
         fill(service + 5, 33);
         service_length = 5u + row[2];
     }
-    (void)play_test(service, service_length);
-    (void)play_test(factory, factory_length);
-    for (size_t i = 0; i < 8; i++)
+    for (int i = 0; i < 2; i++) {
+        struct sb2_bytes sheet = lend(0, i ? factory : service, i ? factory_length : service_length);
+        begin("is_sheet", 1, NO_AREA, false);
+        bool second = sb2_sheet_good(sheet);
+        compare(snatchblock_is_sheet(sheet.at, sheet.length), second);
+        came_up(IS_SHEET, second);
+    }
+    for (int i = 0; i < 6; i++)
         (void)play_block(bytes_of(service, service_length), bytes_of(factory, factory_length),
-                         i < SB2_TAGS ? sheet_tags[i] : (uint8_t)below(256));
+                         (uint8_t)(i < 4 ? 0x20 + i : (int)below(256)));
 }
 
 /* ---- edits of a sheet in its room */
 
-enum { EDIT_ROOMS = 173 };
+enum { EDIT_ROOMS = 161, FIRST_TAG = 0x20, ROW_BYTES = 4 };
 static uint8_t edited[ROOM_MOST];         /* between edits: the sheet, and behind it what stood there before */
 static size_t edited_room, edited_length; /* the room's bytes, and the sheet's as last answered */
-static bool edited_new;                   /* its form, which stays */
-static uint8_t kept_bytes[SB2_TAGS][SB2_NAME_MOST];
-static struct sb2_body kept[SB2_TAGS]; /* what the edits should have left */
+static uint8_t kept_bytes[4][SB2_NAME_MOST];
+static struct sb2_body kept[4]; /* what the edits should have left */
 
 struct edit {
     bool set; /* else removed */
@@ -972,29 +790,11 @@ struct edit {
     struct sb2_bytes body;
 };
 
-/* The count of a class of edits, which stands twice. */
-#define OF_NEW(class) ((class) + (E_END - E_SET))
-static uint64_t *edits_of(size_t class)
-{
-    return &other[edited_new ? OF_NEW(class) : class];
-}
-
-/* Whether a sheet of this form lists such a tag. */
-static bool known_tag(uint8_t tag)
-{
-    return tag_place(tag) < SB2_TAGS && (edited_new || tag_place(tag) >= FIRST_NAME);
-}
-
-static bool word_tag(uint8_t tag)
-{
-    return known_tag(tag) && tag_place(tag) < FIRST_NAME;
-}
-
-/* The body under a tag, none under those that no sheet of this form lists. */
+/* The body under a tag, none under those that no sheet lists. */
 static struct sb2_body kept_under(uint8_t tag)
 {
     const struct sb2_body none = {false, {edited, 0}};
-    return known_tag(tag) ? kept[tag_place(tag)] : none;
+    return tag < FIRST_TAG || tag > FIRST_TAG + 3 ? none : kept[tag - FIRST_TAG];
 }
 
 /* The sheet's bytes but for a tag's row and body. */
@@ -1013,13 +813,13 @@ static size_t wanted_length(const struct edit *e)
 static void refusals_of(const struct edit *e, bool holds[4])
 {
     bool bad_sheet = edited_length == 0 || e->stated != edited_length;
-    bool bad_tag = !known_tag(e->tag);
-    bool bad_body = e->set && (word_tag(e->tag) ? e->body.length != 2 : e->body.length > SB2_NAME_MOST);
+    bool bad_tag = e->tag < FIRST_TAG || e->tag > FIRST_TAG + 3;
+    bool long_body = e->set && e->body.length > SB2_NAME_MOST;
     size_t least = 1u + (e->set ? ROW_BYTES + e->body.length : 0);
     holds[0] = bad_sheet;
     holds[1] = bad_tag;
-    holds[2] = bad_body;
-    holds[3] = (bad_sheet || bad_tag || bad_body ? least : wanted_length(e)) > edited_room;
+    holds[2] = long_body;
+    holds[3] = (bad_sheet || bad_tag || long_body ? least : wanted_length(e)) > edited_room;
 }
 
 static int wanted_answer(const struct edit *e)
@@ -1056,23 +856,6 @@ static int edit_in_both(const struct edit *e, size_t room_length, size_t *length
     return answer;
 }
 
-/* The tags about those of the form, of an old sheet the words' too; others. */
-static unsigned bad_tag_class(uint8_t tag)
-{
-    const uint8_t tags[4] = {edited_new ? 0x1A : 0x1B, edited_new ? 0x1D : 0x1C, 0x1F, 0x24};
-    unsigned class = 0;
-    while (class < 4 && tags[class] != tag)
-        class++;
-    return class;
-}
-
-/* A word's body by its length: 0, 1, 2, 3, to 32, more. */
-static void note_word_body(const struct edit *e)
-{
-    size_t class = e->body.length < 4 ? e->body.length : e->body.length <= SB2_NAME_MOST ? 4 : 5;
-    ++*edits_of(E_WORD + 6 * tag_place(e->tag) + class);
-}
-
 /* What was refused and why; each two reasons that held at once. */
 static void note_refused_edit(const struct edit *e, int answer)
 {
@@ -1081,17 +864,15 @@ static void note_refused_edit(const struct edit *e, int answer)
     for (size_t i = 0, both = 0; i < 4; i++)
         for (size_t j = i + 1; j < 4; j++, both++)
             if (holds[i] && holds[j])
-                ++*edits_of(E_ORDER + both);
+                other[E_ORDER + both]++;
     if (edited_room < EDIT_ROOMS)
-        ++*edits_of(E_REFUSED + edited_room);
+        other[E_REFUSED + edited_room]++;
     if (answer == SB2_BAD_TAG)
-        ++*edits_of(E_TAG + 5u * !e->set + bad_tag_class(e->tag));
-    if (answer == SB2_LONG_BODY && word_tag(e->tag))
-        note_word_body(e);
-    else if (answer == SB2_LONG_BODY)
-        ++*edits_of(E_LONG + (e->body.length == SB2_NAME_MOST + 1 ? 0 : e->body.length < 256 ? 1 : 2));
+        other[E_TAG + 3u * !e->set + (e->tag == FIRST_TAG - 1 ? 0 : e->tag == FIRST_TAG + 4 ? 1 : 2)]++;
+    if (answer == SB2_LONG_BODY)
+        other[E_LONG + (e->body.length == SB2_NAME_MOST + 1 ? 0 : e->body.length < 256 ? 1 : 2)]++;
     if (answer == SB2_LONG_SHEET && wanted_length(e) == edited_room + 1)
-        ++*edits_of(E_OVER + edited_room - 4);
+        other[E_OVER + edited_room - 4]++;
 }
 
 /* A set body beside the one before: there was none, it is longer, shorter, another as long, the same. */
@@ -1108,30 +889,27 @@ static unsigned set_kind(struct sb2_bytes body, struct sb2_body before)
 static void note_served_edit(const struct edit *e)
 {
     struct sb2_body before = kept_under(e->tag);
-    unsigned first = edited_new ? 0 : FIRST_NAME, tags = SB2_TAGS - first;
-    unsigned at = (unsigned)tag_place(e->tag) - first, listed = 0;
-    for (unsigned i = 0; i < tags; i++)
-        listed |= (unsigned)kept[first + i].given << i;
+    unsigned at = e->tag - FIRST_TAG, listed = 0;
+    for (unsigned i = 0; i < 4; i++)
+        listed |= (unsigned)kept[i].given << i;
     unsigned place = (listed >> at > 1) + 2u * ((listed & ((1u << at) - 1)) > 0); /* alone, first, last, between */
-    ++*edits_of(E_TAGS + (e->set ? 0 : tags << tags) + tags * listed + at);
-    ++*edits_of(E_BY + 36 + wanted_length(e) - edited_length);
+    other[E_TAGS + 64u * !e->set + 4 * listed + at]++;
+    other[E_BY + 36 + wanted_length(e) - edited_length]++;
     if (edited_room < EDIT_ROOMS)
-        ++*edits_of(E_SERVED + edited_room);
+        other[E_SERVED + edited_room]++;
     if (!e->set) {
-        ++*edits_of(before.given ? E_REMOVED + place : E_ABSENT);
+        other[before.given ? E_REMOVED + place : E_ABSENT]++;
         return;
     }
-    ++*edits_of(E_SET + 4 * set_kind(e->body, before) + place);
-    ++*edits_of(E_BODY + e->body.length);
-    if (word_tag(e->tag))
-        note_word_body(e);
+    other[E_SET + 4 * set_kind(e->body, before) + place]++;
+    other[E_BODY + e->body.length]++;
     if (wanted_length(e) == edited_room)
-        ++*edits_of(E_FULL + edited_room - 5);
+        other[E_FULL + edited_room - 5]++;
 }
 
 static void keep_edit(const struct edit *e, size_t length)
 {
-    size_t at = tag_place(e->tag);
+    unsigned at = e->tag - FIRST_TAG;
     if (e->set)
         memmove(kept_bytes[at], e->body.at, e->body.length); /* it may be the body that is kept */
     kept[at].given = e->set;
@@ -1147,7 +925,7 @@ static void check_edit(uint8_t tag, size_t before)
     struct sb2_body body = kept_under(tag);
     for (size_t i = edited_length; i < before; i++)
         expect(edited[i] == 0, "freed bytes");
-    size_t length = play_write_bodies(edited_new, kept, SB2_NEW_SHEET_ROOM);
+    size_t length = play_write_bodies(kept, SB2_SHEET_ROOM);
     expect(length == edited_length && memcmp(made_sheet, edited, length) == 0, "the edited sheet, beside this one,");
     uint64_t found = play_block(bytes_of(edited, edited_length), bytes_of(none, 1), tag);
     expect(snatchblock_block_in_factory(found) == !body.given && snatchblock_block_length(found) == body.bytes.length &&
@@ -1179,7 +957,7 @@ static void play_misstated(struct edit e)
     unsigned which = below(6);
     e.stated = lengths[which];
     play_edit(e);
-    ++*edits_of(E_STATED + 6u * !e.set + which);
+    other[E_STATED + 6u * !e.set + which]++;
 }
 
 /* The edit in a room that ends before the sheet does: it is 9, though the bytes behind it are the sheet's. */
@@ -1187,68 +965,53 @@ static void play_cut_room(struct edit e)
 {
     size_t length, short_of = one_in(2) ? 1 : 1 + below((uint32_t)edited_length);
     expect(edit_in_both(&e, edited_length - short_of, &length) == SB2_BAD_SHEET, "answer");
-    ++*edits_of(E_CUT + (short_of > 1));
+    other[E_CUT + (short_of > 1)]++;
 }
 
-/* The edit of a sheet with a byte changed; it may still be one, of other bodies or of the other form. */
+/* The edit of a sheet with a byte changed; it may still be one, of other bodies. */
 static void play_bent_sheet(struct edit e)
 {
     uint8_t whole[ROOM_MOST];
-    struct sb2_sheet sheet;
     size_t length;
     memcpy(whole, edited, sizeof whole);
-    if (one_in(3))
+    if (one_in(2))
         bend_sheet(edited);
-    else if (one_in(2))
-        edited[0] ^= (uint8_t)(1u << below(8));
     else
-        edited[below(one_in(2) ? 25 : SB2_NEW_SHEET_ROOM)] ^= (uint8_t)(1u << below(8));
-    bool good = sb2_sheet_read(bytes_of(edited, edited_length), &sheet);
+        edited[below(one_in(2) ? 17 : SB2_SHEET_ROOM)] ^= (uint8_t)(1u << below(8));
+    bool good = sb2_sheet_good(bytes_of(edited, edited_length));
     expect((edit_in_both(&e, edited_room, &length) != SB2_BAD_SHEET) == good, "answer");
     memcpy(edited, whole, sizeof whole);
-    ++*edits_of(E_BENT + (!good ? 0 : sheet.is_new == edited_new ? 1 : 2));
+    other[E_BENT + good]++;
 }
 
-/* The length of a body for a tag: about the one there, about what the room takes, or any. */
-static size_t some_length(uint8_t tag, size_t most)
-{
-    size_t there = kept_under(tag).bytes.length;
-    size_t rest = edited_room - length_without(tag) - ROW_BYTES; /* wraps where a row has no room */
-    if (word_tag(tag) && !one_in(3))
-        return 2;
-    switch (below(14)) {
-    case 0: return word_tag(tag) ? below(4) : 0;
-    case 1: return SB2_NAME_MOST;
-    case 2: return SB2_NAME_MOST + 1 + (one_in(2) ? 0 : below((uint32_t)(most - SB2_NAME_MOST)));
-    case 3: return word_tag(tag) ? below(4) : there;
-    case 4: return there;
-    case 5: return there + 1;
-    case 6: return there - (there > 0);
-    case 7: if (rest <= SB2_NAME_MOST) return rest; break;
-    case 8: if (rest < SB2_NAME_MOST) return rest + 1; break;
-    default: break;
-    }
-    return below(rest < SB2_NAME_MOST && one_in(2) ? (uint32_t)rest + 1 : SB2_NAME_MOST + 1);
-}
-
-/* A body for a tag, at times the one there. */
+/* A body for a tag: about the one there, about what the room takes, or any. */
 static struct sb2_bytes some_body(uint8_t tag)
 {
     static uint8_t body[SB2_NAME_MOST + 300];
-    if (one_in(14))
-        return kept_under(tag).bytes;
-    size_t length = some_length(tag, sizeof body);
+    struct sb2_body there = kept_under(tag);
+    size_t rest = edited_room - length_without(tag) - ROW_BYTES; /* wraps where a row has no room */
+    size_t length = below(rest < SB2_NAME_MOST && one_in(2) ? (uint32_t)rest + 1 : SB2_NAME_MOST + 1);
+    switch (below(14)) {
+    case 0: length = 0; break;
+    case 1: length = SB2_NAME_MOST; break;
+    case 2: length = SB2_NAME_MOST + 1 + (one_in(2) ? 0 : below(sizeof body - SB2_NAME_MOST)); break;
+    case 3: return there.bytes;
+    case 4: length = there.bytes.length; break;
+    case 5: length = there.bytes.length + 1; break;
+    case 6: length = there.bytes.length - (there.bytes.length > 0); break;
+    case 7: length = rest <= SB2_NAME_MOST ? rest : length; break;
+    case 8: length = rest < SB2_NAME_MOST ? rest + 1 : length; break;
+    default: break;
+    }
     fill(body, length);
     return bytes_of(body, length);
 }
 
 static struct edit some_edit(void)
 {
-    static const uint8_t about[6] = {0x1A, 0x1B, 0x1C, 0x1D, 0x1F, 0x24};
-    uint32_t first = edited_new ? 0 : FIRST_NAME;
-    struct edit e = {!one_in(3), sheet_tags[first + below(SB2_TAGS - first)], edited_length, {edited, 0}};
-    if (one_in(10))
-        e.tag = one_in(3) ? (uint8_t)draw() : about[below(6)];
+    struct edit e = {!one_in(3), (uint8_t)(FIRST_TAG + below(4)), edited_length, {edited, 0}};
+    if (one_in(12))
+        e.tag = (uint8_t)(one_in(3) ? draw() : one_in(2) ? FIRST_TAG - 1 : FIRST_TAG + 4);
     if (e.set)
         e.body = some_body(e.tag);
     return e;
@@ -1269,48 +1032,23 @@ static void play_edit_series(uint32_t edits)
     }
 }
 
-/* A room of old bytes with a sheet of a form at its front: the empty one, or one of these bodies, so far as they have
- * room, written afresh. */
-static void start_sheet(bool is_new, size_t room_length, unsigned listed)
+/* A room of old bytes with a sheet at its front: the empty one, or one of bodies that have room, written afresh. */
+static void start_sheet(size_t room_length, bool written)
 {
     fill(edited, sizeof edited);
-    edited[0] = is_new ? NEW_MARK : 0;
-    edited_new = is_new;
+    edited[0] = 0;
     edited_room = room_length;
     edited_length = room_length > 0;
-    for (size_t i = 0; i < SB2_TAGS; i++) {
-        size_t length = i < FIRST_NAME ? 2 : below(SB2_NAME_MOST + 1);
-        bool may = (is_new || i >= FIRST_NAME) && (listed >> i & 1);
-        kept[i].given = may && edited_length + ROW_BYTES + length <= room_length;
+    for (size_t i = 0; i < 4; i++) {
+        size_t length = below(SB2_NAME_MOST + 1);
+        kept[i].given = written && !one_in(3) && edited_length + ROW_BYTES + length <= room_length;
         kept[i].bytes = bytes_of(kept_bytes[i], kept[i].given ? length : 0);
         fill(kept_bytes[i], kept[i].bytes.length);
         edited_length += kept[i].given ? ROW_BYTES + length : 0;
     }
-    if (listed != 0) {
-        (void)play_write_bodies(is_new, kept, SB2_NEW_SHEET_ROOM);
+    if (written) {
+        (void)play_write_bodies(kept, SB2_SHEET_ROOM);
         memcpy(edited, made_sheet, edited_length);
-    }
-}
-
-/* Each of six bodies there or not, mostly there. */
-static unsigned some_listed(void)
-{
-    return (unsigned)(draw() | draw()) % (1u << SB2_TAGS);
-}
-
-/* Words first, where a new sheet of so many bytes has them and the names' rows still have room. */
-static void play_filling_words(size_t aim)
-{
-    uint8_t body[2];
-    size_t needed = aim > SB2_SHEET_ROOM + 6 ? 2 : aim > SB2_SHEET_ROOM ? 1 : 0, words = 0;
-    fill(body, sizeof body);
-    for (uint32_t i = 0, first = below(2); edited_new && i < 2; i++) {
-        size_t rest = aim - edited_length - 6; /* wraps where the word has no room */
-        bool may = edited_length + 6 <= aim && (rest == 0 || rest >= ROW_BYTES);
-        if (words < needed || (may && one_in(2))) {
-            play_edit((struct edit){true, sheet_tags[(first + i) % 2], edited_length, {body, 2}});
-            words++;
-        }
     }
 }
 
@@ -1320,52 +1058,34 @@ static void play_filling(size_t aim)
     uint32_t first = below(4), step = one_in(2) ? 1 : 3;
     uint8_t body[SB2_NAME_MOST];
     fill(body, sizeof body);
-    play_filling_words(aim);
     for (uint32_t i = 0; i < 4 && edited_length + ROW_BYTES <= aim; i++) {
         size_t rest = aim - edited_length - ROW_BYTES;
         size_t length = rest < SB2_NAME_MOST ? rest : SB2_NAME_MOST;
         if (rest > length && rest - length < ROW_BYTES)
             length -= ROW_BYTES; /* so that the next one's row has room */
-        play_edit((struct edit){true, sheet_tags[FIRST_NAME + (first + step * i) % 4], edited_length, {body, length}});
+        play_edit((struct edit){true, (uint8_t)(FIRST_TAG + (first + step * i) % 4), edited_length, {body, length}});
     }
 }
 
-/* Every room to some bytes more than the longest sheet: at its last byte, one beyond it, and series from there; one
- * from a written sheet; one edit that is refused whatever the room. */
-static void play_edit_rooms(bool is_new)
+/* Every room to 160 bytes: at its last byte, one beyond it, and series from there; one from a written sheet. */
+static void play_edit_rooms(void)
 {
     for (size_t size = 0; size < EDIT_ROOMS; size++) {
-        start_sheet(is_new, size, 0);
+        start_sheet(size, false);
         play_filling(size + 1);
         play_edit_series(16);
-        start_sheet(is_new, size, 0);
+        start_sheet(size, false);
         play_filling(size);
         play_edit_series(16);
-        start_sheet(is_new, size, some_listed());
-        play_misstated(some_edit());
+        start_sheet(size, true);
         play_edit_series(16);
-    }
-}
-
-/* Each set of a new sheet's bodies, each of its tags set and removed. */
-static void play_edit_sets(void)
-{
-    for (unsigned way = 0; way < 2 * 64 * SB2_TAGS; way++) {
-        uint8_t body[SB2_NAME_MOST];
-        size_t at = way % SB2_TAGS;
-        bool set = way < 64 * SB2_TAGS;
-        fill(body, sizeof body);
-        start_sheet(true, ROOM_MOST, way / SB2_TAGS % 64);
-        size_t length = at < FIRST_NAME ? 2 : below(SB2_NAME_MOST + 1);
-        play_edit((struct edit){set, sheet_tags[at], edited_length, {body, set ? length : 0}});
     }
 }
 
 static void play_edits(void)
 {
-    for (int i = 0; i < 6; i++) {
-        size_t room_length = one_in(2) ? below(EDIT_ROOMS) : 60 + below(ROOM_MOST - 59);
-        start_sheet(i % 3 != 0, room_length, one_in(2) ? some_listed() : 0);
+    for (int i = 0; i < 4; i++) {
+        start_sheet(one_in(2) ? below(EDIT_ROOMS) : 60 + below(ROOM_MOST - 59), one_in(2));
         play_edit_series(10 + below(30));
     }
 }
@@ -2189,28 +1909,20 @@ static void play_long_key(void)
     play_read_key(key, place);
 }
 
-/* Writes the key of these parts by both programs; gives its length, 0 if refused. */
-static size_t play_write_key(struct sb2_bytes maker, struct sb2_bytes device, uint16_t date, uint16_t serial,
-                             size_t room_length)
+static void play_keys(void)
 {
-    struct sb2_bytes m = lend(0, maker.at, maker.length), d = lend(1, device.at, device.length);
+    uint8_t maker[64], device[64], key[160];
+    struct sb2_bytes m = lend(0, maker, some_name(maker));
+    struct sb2_bytes d = lend(1, device, some_name(device));
+    uint16_t date = some_word(), serial = some_word();
+    lend_room(room_size(SB2_KEY_ROOM));
     size_t length;
-    lend_room(room_length);
     begin("write_key (maker, device)", 2, NO_AREA, true);
     note(date), note(serial);
     uint32_t proved = snatchblock_write_key(m.at, m.length, d.at, d.length, date, serial, room.p, room.length);
     int answer = sb2_key_write(m, d, date, serial, room.s, room.length, &length);
     compare(proved, (uint32_t)answer | (uint32_t)length << 8);
     came_up(WRITE_KEY, (uint32_t)answer);
-    return length;
-}
-
-static void play_keys(void)
-{
-    uint8_t maker[64], device[64], key[160];
-    size_t maker_length = some_name(maker), device_length = some_name(device);
-    size_t length = play_write_key(bytes_of(maker, maker_length), bytes_of(device, device_length), some_word(),
-                                   some_word(), room_size(SB2_KEY_ROOM));
     memcpy(key, room.s, length);
     play_read_key(key, length);
     if (length > 0) {
@@ -2227,362 +1939,7 @@ static void play_keys(void)
     play_long_key();
     fill(key, sizeof key);
     play_read_key(key, below(sizeof key));
-    play_unescape(maker, maker_length);
-}
-
-/* ---- a pack's key */
-
-/* An area that is none: of another version, of another length, with a flag above 1; and one that isn't sound. */
-static void note_no_area(size_t length)
-{
-    struct sb2_state state;
-    for (size_t i = 0; i < 3; i++)
-        if (length == old_sizes[i])
-            other[K_NO_AREA + i]++;
-    if (length != SNATCHBLOCK_AREA)
-        other[K_NO_AREA + 3]++;
-    else
-        other[K_NO_AREA + 4 + sb2_area_load(bytes_of(area.s, length), &state)]++;
-}
-
-/* The room where it decides: none, up to 137, 138, 139, 140, more. */
-static void note_key_room(void)
-{
-    size_t class = room.length < SB2_KEY_ROOM - 1 ? room.length > 0 : room.length - (SB2_KEY_ROOM - 1) + 2;
-    other[K_ROOM + (class < 5 ? class : 5)]++;
-}
-
-/* Each two of 1, 9 and 12 at once. */
-static void note_key_order(bool sound, bool good)
-{
-    bool small = room.length < SB2_KEY_ROOM;
-    if (!sound && !good)
-        other[K_BOTH]++;
-    if (!sound && small)
-        other[K_BOTH + 1]++;
-    if (!good && small)
-        other[K_BOTH + 2]++;
-}
-
-/* Where a served key's parts come from: the names, then the words. */
-static void note_key_parts(const struct pair *pair, size_t length)
-{
-    static const uint8_t tags[4] = {0x20, 0x21, 0x1B, 0x1C};
-    for (size_t k = 0; k < 4; k++) {
-        size_t i = tag_place(tags[k]);
-        other[K_LISTED + 4 * k + pair->sheet[0].bodies[i].given + 2u * pair->sheet[1].bodies[i].given]++;
-    }
-    other[K_OF + 2u * pair->sheet[0].is_new + pair->sheet[1].is_new]++;
-    if (memchr(room.s, 0x5C, length) != NULL)
-        other[K_NAME]++;
-    if (length == SB2_KEY_ROOM)
-        other[K_NAME + 1]++;
-    if (length == 11) /* three strokes and eight digits */
-        other[K_NAME + 2]++;
-}
-
-static void note_pack_key(int answer, size_t area_length, size_t length)
-{
-    struct pair pair = lent_pair();
-    bool good = pair.good[0] && pair.good[1];
-    note_key_order(answer == SB2_NOT_SOUND, good);
-    if (state_area[0] > 0)
-        other[K_CODE + (answer == SB2_SERVED ? 0 : answer == SB2_NOT_SOUND ? 1 : answer == SB2_BAD_SHEET ? 2 : 3)]++;
-    if (answer == SB2_NOT_SOUND)
-        note_no_area(area_length);
-    else if (!good)
-        other[K_BAD + bad_one(&pair)]++;
-    else
-        note_key_room();
-    if (answer == SB2_SERVED)
-        note_key_parts(&pair, length);
-}
-
-/* A name as it is looked up. */
-static struct sb2_bytes name_found(uint8_t tag)
-{
-    uint64_t found = play_block(bytes_of(service, service_length), bytes_of(factory, factory_length), tag);
-    const uint8_t *sheet = snatchblock_block_in_factory(found) ? factory : service;
-    return bytes_of(sheet + snatchblock_block_offset(found), snatchblock_block_length(found));
-}
-
-static uint16_t word_read(uint8_t command)
-{
-    play_read(command);
-    return (uint16_t)(room.s[0] | room.s[1] << 8);
-}
-
-/* A served key is that of the parts that the pack shows, names and words. */
-static void check_pack_key(size_t length)
-{
-    uint8_t key[SB2_KEY_ROOM];
-    memcpy(key, room.s, length);
-    uint16_t date = word_read(0x1B), serial = word_read(0x1C);
-    struct sb2_bytes maker = name_found(0x20), device = name_found(0x21);
-    size_t written = play_write_key(maker, device, date, serial, SB2_KEY_ROOM);
-    expect(written == length && memcmp(room.s, key, length) == 0, "the pack's key, beside this one,");
-}
-
-/* The key of the pack in so much of the area, with the sheets. Nothing of the area changes. */
-static int play_pack_key(size_t area_length, size_t room_length)
-{
-    lend_area(state_area, area_length);
-    lend_room(room_length);
-    struct sb2_bytes s = lend(0, service, service_length);
-    struct sb2_bytes f = lend(1, factory, factory_length);
-    size_t length;
-    begin("pack_key (service, factory)", 2, READS_AREA, true);
-    uint32_t proved = snatchblock_pack_key(area.p, area_length, s.at, s.length, f.at, f.length, room.p, room.length);
-    int answer = sb2_area_pack_key(bytes_of(area.s, area_length), s, f, room.s, room.length, &length);
-    compare(proved, (uint32_t)answer | (uint32_t)length << 8);
-    came_up(PACK_KEY, (uint32_t)answer);
-    note_pack_key(answer, area_length, length);
-    if (answer == SB2_SERVED)
-        check_pack_key(length);
-    return answer;
-}
-
-/* A new sheet of names rich in the bytes that are escaped; of the longest key's, of nothing else. */
-static size_t escaped_sheet(uint8_t at[SHEET_BYTES], bool longest)
-{
-    uint8_t names[2][64];
-    const struct sb2_word words[2] = {{one_in(2), some_word()}, {one_in(2), some_word()}};
-    struct sb2_body bodies[4] = {{true, {names[0], 0}}, {true, {names[1], 0}}, {false, {names[0], 0}},
-                                 {false, {names[0], 0}}};
-    for (size_t i = 0; i < 2; i++) {
-        size_t length = some_name(names[i]);
-        if (longest || length > SB2_NAME_MOST)
-            length = SB2_NAME_MOST;
-        for (size_t k = 0; longest && k < SB2_NAME_MOST; k++)
-            names[i][k] = one_in(2) ? 0x2F : 0x5C;
-        bodies[i].bytes.length = length;
-    }
-    size_t length = play_write_new(words, bodies, SB2_NEW_SHEET_ROOM);
-    memcpy(at, made_sheet, length);
-    return length;
-}
-
-static void play_pack_keys(void)
-{
-    uint8_t sound_area[SNATCHBLOCK_AREA];
-    play_set_up(true);
-    memcpy(sound_area, state_area, sizeof sound_area);
-    for (int i = 0; i < 40; i++) {
-        memcpy(state_area, sound_area, sizeof sound_area);
-        state_area[0] = (uint8_t)below(8);
-        service_length = some_sheet(service);
-        factory_length = some_sheet(factory);
-        if (one_in(4))
-            service_length = escaped_sheet(service, one_in(2));
-        if (one_in(4))
-            bend_area();
-        size_t length = one_in(6) ? area_size() : SNATCHBLOCK_AREA;
-        size_t room_length = one_in(8) ? (one_in(4) ? 0 : SB2_KEY_ROOM - 2 + below(5)) : room_size(SB2_KEY_ROOM);
-        (void)play_pack_key(one_in(8) ? old_sizes[below(3)] : length, room_length);
-    }
-}
-
-/* ---- moves of a sheet from form to form */
-
-static uint8_t moved[SHEET_BYTES];
-
-/* A move by the rules: the answer that they want. */
-static int wanted_move(struct sb2_bytes sheet, bool to_old)
-{
-    struct sb2_sheet listed;
-    if (!sb2_sheet_read(sheet, &listed) || listed.is_new != to_old)
-        return SB2_BAD_SHEET;
-    if (to_old && (listed.bodies[0].given || listed.bodies[1].given))
-        return SB2_LISTS_WORD;
-    return room.length < sheet.length ? SB2_SMALL_ROOM : SB2_SERVED;
-}
-
-/* The other form, the words that are met, each two reasons at once; the room where it decides: none, one byte too
- * short, as long, one more, less, more. */
-static void note_move(struct sb2_bytes sheet, bool to_old, int answer)
-{
-    struct sb2_sheet listed;
-    bool small = room.length < sheet.length;
-    size_t n = sheet.length;
-    if (answer == SB2_BAD_SHEET) {
-        other[M_OTHER + to_old] += sb2_sheet_read(sheet, &listed);
-        other[M_BOTH + to_old] += small;
-        return;
-    }
-    (void)sb2_sheet_read(sheet, &listed);
-    if (answer == SB2_LISTS_WORD) {
-        other[M_WORD + (listed.bodies[0].given ? 2u * listed.bodies[1].given : 1)]++;
-        other[M_BOTH + 2] += small;
-        return;
-    }
-    size_t class = room.length == 0 ? 0 : room.length < n ? 4 : 5;
-    if (room.length > 0 && room.length + 1 >= n && room.length <= n + 1)
-        class = room.length + 2 - n;
-    other[M_ROOM + 6u * to_old + class]++;
-}
-
-/* Moves a sheet by both programs; gives the answer. What is moved has the same bytes but for the first. */
-static int play_move(struct sb2_bytes given, bool to_old, size_t room_length)
-{
-    struct sb2_bytes sheet = lend(0, given.at, given.length);
-    size_t length;
-    lend_room(room_length);
-    begin(to_old ? "sheet_to_old" : "sheet_to_new", 1, NO_AREA, true);
-    uint32_t proved;
-    int answer;
-    if (to_old) {
-        proved = snatchblock_sheet_to_old(sheet.at, sheet.length, room.p, room.length);
-        answer = sb2_sheet_to_old(sheet, room.s, room.length, &length);
-    } else {
-        proved = snatchblock_sheet_to_new(sheet.at, sheet.length, room.p, room.length);
-        answer = sb2_sheet_to_new(sheet, room.s, room.length, &length);
-    }
-    compare(proved, (uint32_t)answer | (uint32_t)length << 8);
-    came_up(to_old ? TO_OLD : TO_NEW, (uint32_t)answer);
-    expect(answer == wanted_move(sheet, to_old), "answer");
-    note_move(sheet, to_old, answer);
-    if (answer == SB2_SERVED) {
-        expect(length == sheet.length && room.s[0] == (sheet.at[0] ^ NEW_MARK) &&
-                   memcmp(room.s + 1, sheet.at + 1, length - 1) == 0,
-               "the moved sheet");
-        memcpy(moved, room.s, length);
-    }
-    return answer;
-}
-
-/* A room about a sheet's length, or any. */
-static size_t move_room(size_t length)
-{
-    switch (below(6)) {
-    case 0: return 0;
-    case 1: return length > 0 ? length - 1 : 0;
-    case 2: return length;
-    case 3: return length + 1;
-    default: return below(ROOM_MOST + 1);
-    }
-}
-
-/* A sheet of each set of names, of either form, moved and moved back: its very bytes. */
-static void play_back_and_forth(void)
-{
-    for (unsigned listed = 0; listed < 16; listed++)
-        for (unsigned from_new = 0; from_new < 2; from_new++) {
-            struct sheet_rows rows = {.count = 0};
-            uint8_t at[SHEET_BYTES];
-            for (unsigned i = 0; i < 4; i++)
-                if (listed >> i & 1) {
-                    rows.tags[rows.count] = (uint8_t)(0x20 + i);
-                    rows.lengths[rows.count++] = (uint8_t)below(SB2_NAME_MOST + 1);
-                }
-            size_t length = put_rows(at, from_new, &rows);
-            expect(play_move(bytes_of(at, length), from_new, length) == SB2_SERVED, "answer");
-            uint8_t between[SHEET_BYTES];
-            memcpy(between, moved, length);
-            expect(play_move(bytes_of(between, length), !from_new, length) == SB2_SERVED, "answer");
-            expect(memcmp(moved, at, length) == 0, "what came back");
-            other[M_BACK + 16 * from_new + listed]++;
-        }
-}
-
-static void play_moves(void)
-{
-    uint8_t at[SHEET_BYTES];
-    enum sheet_form is;
-    play_back_and_forth();
-    for (int i = 0; i < 40; i++) {
-        size_t length = one_in(2) ? some_sheet(at) : damaged_sheet(at, !one_in(3), one_in(2), D_NONE, &is);
-        bool to_old = one_in(2);
-        (void)play_move(bytes_of(at, length), to_old, move_room(length));
-    }
-}
-
-/* ---- sheets of either form, damaged in each way, in each place where one is lent */
-
-/* A right one for the place beside it. */
-static size_t right_sheet(uint8_t at[SHEET_BYTES])
-{
-    enum sheet_form is;
-    bool is_new = one_in(2);
-    at[0] = is_new ? NEW_MARK : 0;
-    return one_in(8) ? 1 : damaged_sheet(at, is_new, one_in(2), D_NONE, &is);
-}
-
-/* Lends it as one of two sheets: 9 exactly where it is none. */
-static void play_in_pair(unsigned use, const uint8_t *at, size_t length, bool good)
-{
-    bool as_factory = use >= IN_PAIRS;
-    service_length = right_sheet(service);
-    factory_length = right_sheet(factory);
-    memcpy(as_factory ? factory : service, at, length);
-    *(as_factory ? &factory_length : &service_length) = length;
-    uint8_t tag = sheet_tags[below(SB2_TAGS)];
-    switch (use % IN_PAIRS) {
-    case IN_BLOCK:
-        answered = play_block(bytes_of(service, service_length), bytes_of(factory, factory_length), tag) & 0xFF;
-        break;
-    case IN_READ_1B: play_read(0x1B); break;
-    case IN_READ_1C: play_read(0x1C); break;
-    case IN_READ_NAME: play_read((uint8_t)(0x20 + below(4))); break;
-    default: answered = play_pack_key(SNATCHBLOCK_AREA, SB2_KEY_ROOM); break;
-    }
-    expect((answered == SB2_BAD_SHEET) == !good, "answer");
-}
-
-/* An edit of it that any sheet of its form takes. */
-static void play_in_edit(bool set, const uint8_t *at, size_t length, bool good)
-{
-    static const uint8_t body[2] = {'P', '7'};
-    struct edit e = {set, (uint8_t)(0x20 + below(4)), length, {body, set ? sizeof body : 0}};
-    size_t after;
-    fill(edited, sizeof edited);
-    memcpy(edited, at, length);
-    int answer = edit_in_both(&e, ROOM_MOST, &after);
-    expect(answer == (good ? SB2_SERVED : SB2_BAD_SHEET), "answer");
-    if (good) /* the form stays */
-        expect((room.s[0] >= NEW_MARK) == (at[0] >= NEW_MARK), "the form after a call");
-}
-
-static void play_damaged(unsigned use, bool is_new, unsigned kind)
-{
-    uint8_t at[SHEET_BYTES];
-    enum sheet_form is;
-    size_t length = damaged_sheet(at, is_new, one_in(2), kind, &is);
-    bool good = is != NO_SHEET;
-    other[F_DAMAGED + (2 * use + is_new) * SHEET_DAMAGES + kind]++;
-    if (use < 2 * IN_PAIRS)
-        play_in_pair(use, at, length, good);
-    else if (use == IN_TEST)
-        expect(play_test(at, length) == is, "what the bytes are");
-    else if (use == IN_SET || use == IN_REMOVE)
-        play_in_edit(use == IN_SET, at, length, good);
-    else
-        (void)play_move(bytes_of(at, length), use == IN_TO_OLD, one_in(4) ? move_room(length) : SHEET_BYTES);
-}
-
-/* Every command read, and the words written, beside sheets of which one may be bad. */
-static void play_all_commands(void)
-{
-    for (uint8_t command = 0; command <= 0x23; command++)
-        if (command <= 0x1C || command >= 0x20)
-            play_read(command);
-    for (uint8_t command = 0; command <= 0x04; command++) {
-        const uint8_t message[4] = {0x16, command, (uint8_t)draw(), (uint8_t)draw()};
-        play_message_in(SB2_REPLY_ROOM, message, 4, false, SNATCHBLOCK_AREA);
-    }
-}
-
-static void play_forms(void)
-{
-    play_write_rooms();
-    play_set_up(true);
-    for (unsigned use = 0; use < IN_USES; use++)
-        for (unsigned kind = 0; kind < 2 * SHEET_DAMAGES; kind++)
-            play_damaged(use, kind % 2 == 1, kind / 2);
-    for (int i = 0; i < 10; i++) {
-        service_length = some_sheet(service);
-        factory_length = some_sheet(factory);
-        play_all_commands();
-    }
+    play_unescape(maker, m.length);
 }
 
 /* ---- captures */
@@ -4280,13 +3637,7 @@ static void play_thirteen(void)
 
 static void play(void)
 {
-    switch (below(22)) {
-    case 21:
-        if (one_in(3)) /* it is long */
-            play_forms();
-        break;
-    case 20: play_moves(); break;
-    case 19: play_pack_keys(); break;
+    switch (below(19)) {
     case 18: play_thirteen(); break;
     case 17: play_edits(); break;
     case 16: play_charger(); break;
@@ -4519,63 +3870,15 @@ static bool tally(void)
         {"sheets that grow by -36 to 36 bytes", E_BY, E_BY + 72},
         {"bodies set of 0 to 32 bytes", E_BODY, E_BODY + 32},
         {"19: of 33, to 255, from 256", E_LONG, E_LONG + 2},
-        {"18: 1B, 1C, 1F, 24, others, set and removed", E_TAG, E_TAG + 9},
+        {"18: 1F, 24, others, set and removed", E_TAG, E_TAG + 5},
         {"rooms of 5 to 145 bytes filled to the last", E_FULL, E_FULL + 140},
         {"20: one byte too long, rooms of 4 to 144", E_OVER, E_OVER + 140},
-        {"edits served in rooms of 1 to 172 bytes", E_SERVED + 1, E_SERVED + 172},
-        {"refused in rooms of 0 to 172", E_REFUSED, E_REFUSED + 172},
+        {"edits served in rooms of 1 to 160 bytes", E_SERVED + 1, E_SERVED + 160},
+        {"refused in rooms of 0 to 160", E_REFUSED, E_REFUSED + 160},
         {"9: stated 0, 1 less, 1 more, past room, 2^32 more", E_STATED, E_STATED + 11},
         {"9: the room ends before the sheet, by 1, by more", E_CUT, E_CUT + 1},
-        {"sheets bent: 9, still a sheet, of the new form", E_BENT, E_BENT + 2},
+        {"sheets bent: 9, and still a sheet", E_BENT, E_BENT + 1},
         {"each two of 9, 18, 19 and 20 at once", E_ORDER, E_ORDER + 5},
-        {"new sheets: bodies added, at each place", OF_NEW(E_SET), OF_NEW(E_SET + 3)},
-        {"longer, shorter, as long, the same, at each place", OF_NEW(E_SET + 4), OF_NEW(E_SET + 19)},
-        {"removed at each place, and not there", OF_NEW(E_REMOVED), OF_NEW(E_ABSENT)},
-        {"each set of six tags, each tag set, and removed", OF_NEW(E_TAGS), OF_NEW(E_TAGS + 2 * 64 * 6 - 1)},
-        {"new sheets that grow by -36 to 36 bytes", OF_NEW(E_BY), OF_NEW(E_BY + 72)},
-        {"bodies set of 0 to 32 bytes", OF_NEW(E_BODY), OF_NEW(E_BODY + 32)},
-        {"19: a name of 33, to 255, from 256", OF_NEW(E_LONG), OF_NEW(E_LONG + 2)},
-        {"1B, 1C of 2; 19: of 0, 1, 3, to 32, more", OF_NEW(E_WORD), OF_NEW(E_WORD + 11)},
-        {"18: 1A, 1D, 1F, 24, others, set and removed", OF_NEW(E_TAG), OF_NEW(E_TAG + 9)},
-        {"rooms of 5 to 157 bytes filled to the last", OF_NEW(E_FULL), OF_NEW(E_FULL + 152)},
-        {"20: one byte too long, rooms of 4 to 156", OF_NEW(E_OVER), OF_NEW(E_OVER + 152)},
-        {"edits served in rooms of 1 to 172 bytes", OF_NEW(E_SERVED + 1), OF_NEW(E_SERVED + 172)},
-        {"refused in rooms of 0 to 172", OF_NEW(E_REFUSED), OF_NEW(E_REFUSED + 172)},
-        {"9: stated 0, 1 less, 1 more, past room, 2^32 more", OF_NEW(E_STATED), OF_NEW(E_STATED + 11)},
-        {"9: the room ends before the sheet, by 1, by more", OF_NEW(E_CUT), OF_NEW(E_CUT + 1)},
-        {"sheets bent: 9, still a sheet, of the old form", OF_NEW(E_BENT), OF_NEW(E_BENT + 2)},
-        {"each two of 9, 18, 19 and 20 at once", OF_NEW(E_ORDER), OF_NEW(E_ORDER + 5)},
-        {"both forms damaged in each way: as service sheet", F_DAMAGED, F_DAMAGED + 2 * IN_PAIRS * SHEET_DAMAGES - 1},
-        {"as factory sheet", F_DAMAGED + 2 * IN_PAIRS * SHEET_DAMAGES, F_DAMAGED + 2 * IN_TEST * SHEET_DAMAGES - 1},
-        {"tested", F_DAMAGED + 2 * IN_TEST * SHEET_DAMAGES, F_DAMAGED + 2 * IN_SET * SHEET_DAMAGES - 1},
-        {"edited", F_DAMAGED + 2 * IN_SET * SHEET_DAMAGES, F_DAMAGED + 2 * IN_TO_NEW * SHEET_DAMAGES - 1},
-        {"moved, both ways", F_DAMAGED + 2 * IN_TO_NEW * SHEET_DAMAGES, F_DAMAGED + 2 * IN_USES * SHEET_DAMAGES - 1},
-        {"written: each set of names; of words and names", F_WRITTEN, F_WRITTEN + 16 + 64 - 1},
-        {"old in rooms of 0, 144, 145, 156 to 158, others", F_ROOM, F_ROOM + 6},
-        {"new in the same", F_ROOM + 7, F_ROOM + 13},
-        {"of 145 bytes, of 157", F_LONGEST, F_LONGEST + 1},
-        {"blocks: each tag in neither, either, both sheets", F_BLOCK, F_BLOCK + 23},
-        {"of each two forms", F_BLOCK_OF, F_BLOCK_OF + 23},
-        {"reads of 1B, 1C, 20 to 23: in neither, either, both", F_READ, F_READ + 23},
-        {"of each two forms", F_READ_OF, F_READ_OF + 23},
-        {"9: the service sheet, the factory sheet, both bad", F_BAD, F_BAD + 17},
-        {"1B, 1C: of two other words, not set-up's, in order", F_TELLS, F_TELLS + 5},
-        {"00 to 1A read beside a bad sheet", F_BLIND, F_BLIND + 0x1A},
-        {"00 to 04 written beside one", F_BLIND_WRITE, F_BLIND_WRITE + 4},
-        {"to new in 0, 1 too few, as many, 1 more, less, more", M_ROOM, M_ROOM + 5},
-        {"to old in the same", M_ROOM + 6, M_ROOM + 11},
-        {"9: the other form, both ways", M_OTHER, M_OTHER + 1},
-        {"21: it lists 1B, 1C, both", M_WORD, M_WORD + 2},
-        {"9 and 2 at once, both ways; 21 and 2", M_BOTH, M_BOTH + 2},
-        {"each set of names moved and back, from either form", M_BACK, M_BACK + 31},
-        {"keys: 20, 21, 1B, 1C in neither, either, both", K_LISTED, K_LISTED + 15},
-        {"of each two forms", K_OF, K_OF + 3},
-        {"9: the service sheet, the factory sheet, both bad", K_BAD, K_BAD + 2},
-        {"1: versions 1 to 3, other lengths, a flag, not sound", K_NO_AREA, K_NO_AREA + 5},
-        {"rooms of 0, to 137, 138, 139, 140, more", K_ROOM, K_ROOM + 5},
-        {"each two of 1, 9 and 12 at once", K_BOTH, K_BOTH + 2},
-        {"an error code beside 0, 1, 9, 12", K_CODE, K_CODE + 3},
-        {"names escaped, 139 bytes, no names", K_NAME, K_NAME + 2},
         {"thirteen cells: each served command read", T_READ, T_READ + 21},
         {"each of 256 commands read", T_COMMAND, T_COMMAND + 255},
         {"written with a right PEC", T_WRITE, T_WRITE + 255},
@@ -4644,9 +3947,7 @@ int main(int count, char **given)
     make_lent();
     on_signals(stopped);
     service_length = factory_length = 1;
-    play_edit_rooms(false);
-    play_edit_rooms(true);
-    play_edit_sets();
+    play_edit_rooms();
     for (;;)
         play();
 }

@@ -1,4 +1,4 @@
-/* What the entries are given: set-ups, times, messages and sheets, right or damaged, cells, rooms. */
+/* What the entries are given: set-ups, times, messages, right or damaged, cells, rooms. */
 #ifndef GIVEN_H
 #define GIVEN_H
 
@@ -136,149 +136,11 @@ static inline size_t some_message(uint8_t at[64], bool *read)
     return length;
 }
 
-/* ---- sheets */
-
-/* Any sheet, and some bytes more for what is none. */
-enum { SHEET_BYTES = SB2_NEW_SHEET_ROOM + 8, ROW_BYTES = 4, FIRST_NAME = 2, NEW_MARK = 0x80 };
-static const uint8_t sheet_tags[SB2_TAGS] = {0x1B, 0x1C, 0x20, 0x21, 0x22, 0x23};
-
-/* A tag's place among them, SB2_TAGS for any other. */
-static inline size_t tag_place(uint8_t tag)
+/* Moves one byte of one row, or the count of rows, by one. */
+static inline void bend_sheet(uint8_t at[145])
 {
-    size_t i = 0;
-    while (i < SB2_TAGS && sheet_tags[i] != tag)
-        i++;
-    return i;
-}
-
-/* Moves one byte of one row, or the count of rows, by one; of either form. */
-static inline void bend_sheet(uint8_t at[25])
-{
-    uint32_t rows = at[0] % NEW_MARK;
-    size_t place = one_in(6) ? 0 : 1 + ROW_BYTES * below(rows ? rows : 1) + below(4);
+    size_t place = one_in(6) ? 0 : 1 + 4 * below(at[0] ? at[0] : 1) + below(4);
     at[place] = (uint8_t)(at[place] + (one_in(2) ? 1 : -1));
-}
-
-/* Rows of a sheet that is put together without either writer. */
-struct sheet_rows {
-    uint8_t tags[SB2_TAGS], lengths[SB2_TAGS];
-    size_t count;
-};
-
-/* The first byte, these rows with right offsets, and bodies of some bytes; gives the length. */
-static inline size_t put_rows(uint8_t at[SHEET_BYTES], bool is_new, const struct sheet_rows *rows)
-{
-    size_t place = 1 + ROW_BYTES * rows->count;
-    at[0] = (uint8_t)(rows->count + (is_new ? NEW_MARK : 0));
-    for (size_t i = 0; i < rows->count; i++) {
-        const uint8_t row[ROW_BYTES] = {rows->tags[i], rows->lengths[i], (uint8_t)place, 0}; /* under 256 bytes */
-        memcpy(at + 1 + ROW_BYTES * i, row, ROW_BYTES);
-        fill(at + place, rows->lengths[i]);
-        place += rows->lengths[i];
-    }
-    return place;
-}
-
-/* Rows of a right sheet, at least two, the last a name; the first a word, or none of them. */
-static inline struct sheet_rows some_rows(bool with_words)
-{
-    struct sheet_rows rows;
-    do {
-        rows.count = 0;
-        for (size_t i = with_words ? 0 : FIRST_NAME; i < SB2_TAGS; i++) {
-            if (one_in(3))
-                continue;
-            rows.tags[rows.count] = sheet_tags[i];
-            rows.lengths[rows.count++] = (uint8_t)(i < FIRST_NAME ? 2 : below(SB2_NAME_MOST + 1));
-        }
-    } while (rows.count < 2 || rows.tags[rows.count - 1] < 0x20 || (with_words && rows.tags[0] >= 0x20));
-    return rows;
-}
-
-/* The ways in which a sheet may be damaged, each alone. */
-enum sheet_damage {
-    D_NONE,
-    D_FIRST_BIT,                   /* a bit of the first byte; the highest one makes it the other form's */
-    D_ROW_MORE = D_FIRST_BIT + 8,  /* the count one more, one less */
-    D_ROW_LESS,
-    D_SWAPPED,                     /* two rows in the other order, one tag twice */
-    D_TWICE,
-    D_TAG,                         /* 1A, 1D, 1F or 24 listed; 1B, 1C, which a new sheet may list */
-    D_WORD = D_TAG + 6,            /* a word of 0, 1, 3 bytes */
-    D_NAME_33 = D_WORD + 3,
-    D_LENGTH,                      /* a row's length one more, one less */
-    D_OFFSET = D_LENGTH + 2,       /* its offset one more, one less, 256 more */
-    D_CUT = D_OFFSET + 3,          /* the last byte cut off, some rows, all bytes */
-    D_MORE = D_CUT + 3,            /* a byte more */
-    SHEET_DAMAGES
-};
-
-/* What is done to the rows, whose offsets are right all the same. */
-static inline void damage_rows(struct sheet_rows *rows, unsigned kind)
-{
-    static const uint8_t tags[6] = {0x1A, 0x1D, 0x1F, 0x24, 0x1B, 0x1C}, lengths[3] = {0, 1, 3};
-    size_t last = rows->count - 1, i = below((uint32_t)last);
-    if (kind == D_SWAPPED || kind == D_TWICE) {
-        struct sheet_rows was = *rows;
-        rows->tags[i] = was.tags[i + 1];
-        rows->lengths[i] = was.lengths[i + 1];
-        if (kind == D_SWAPPED) {
-            rows->tags[i + 1] = was.tags[i];
-            rows->lengths[i + 1] = was.lengths[i];
-        }
-    } else if (kind >= D_TAG && kind < D_WORD) {
-        size_t place = tags[kind - D_TAG] == 0x24 ? last : 0; /* so that they rise */
-        rows->tags[place] = tags[kind - D_TAG];
-        rows->lengths[place] = 2;
-    } else if (kind >= D_WORD && kind < D_NAME_33) {
-        rows->tags[0] = (uint8_t)(0x1B + below(2));
-        rows->lengths[0] = lengths[kind - D_WORD];
-    } else if (kind == D_NAME_33) {
-        rows->lengths[last] = SB2_NAME_MOST + 1;
-    }
-}
-
-/* What is done to the bytes; gives their length. */
-static inline size_t damage_bytes(uint8_t at[SHEET_BYTES], size_t length, const struct sheet_rows *rows, unsigned kind)
-{
-    uint8_t *row = at + 1 + ROW_BYTES * below((uint32_t)rows->count);
-    if (kind >= D_FIRST_BIT && kind < D_ROW_MORE)
-        at[0] ^= (uint8_t)(1u << (kind - D_FIRST_BIT));
-    switch (kind) {
-    case D_ROW_MORE: at[0]++; break;
-    case D_ROW_LESS: at[0]--; break;
-    case D_LENGTH: row[1]++; break;
-    case D_LENGTH + 1: row[1]--; break;
-    case D_OFFSET: row[2]++; break;
-    case D_OFFSET + 1: row[2]--; break;
-    case D_OFFSET + 2: row[3]++; break;
-    case D_CUT: return length - 1;
-    case D_CUT + 1: return 1 + below(ROW_BYTES * (uint32_t)rows->count);
-    case D_CUT + 2: return 0;
-    case D_MORE: at[length] = (uint8_t)draw(); return length + 1;
-    default: break;
-    }
-    return length;
-}
-
-/* What bytes are, as they were made. */
-enum sheet_form { OLD_SHEET, NEW_SHEET, NO_SHEET };
-
-/* A sheet of a form, damaged in this way; gives its length, and what it is now. A new one may list words beside its
- * names; those that a damage brings come alone. */
-static inline size_t damaged_sheet(uint8_t at[SHEET_BYTES], bool is_new, bool with_word, unsigned kind,
-                                   enum sheet_form *is)
-{
-    bool brought = kind >= D_TAG && kind < D_NAME_33;
-    struct sheet_rows rows = some_rows(is_new && with_word && !brought);
-    damage_rows(&rows, kind);
-    size_t length = damage_bytes(at, put_rows(at, is_new, &rows), &rows, kind);
-    *is = NO_SHEET;
-    if (kind == D_NONE || (is_new && (kind == D_TAG + 4 || kind == D_TAG + 5)))
-        *is = is_new ? NEW_SHEET : OLD_SHEET;
-    else if (kind == D_FIRST_BIT + 7 && !(is_new && with_word))
-        *is = is_new ? OLD_SHEET : NEW_SHEET;
-    return length;
 }
 
 /* ---- the charger */

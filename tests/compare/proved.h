@@ -21,24 +21,6 @@ static inline uint32_t proved_sample(uint8_t *area, size_t length, const struct 
                               room, room_length);
 }
 
-static inline uint32_t proved_write_sheet(uint8_t *room, size_t room_length, const struct sb2_body names[4])
-{
-    return snatchblock_write_sheet(room, room_length, names[0].given, names[0].bytes.at, names[0].bytes.length,
-                                   names[1].given, names[1].bytes.at, names[1].bytes.length, names[2].given,
-                                   names[2].bytes.at, names[2].bytes.length, names[3].given, names[3].bytes.at,
-                                   names[3].bytes.length);
-}
-
-static inline uint32_t proved_write_new_sheet(uint8_t *room, size_t room_length, const struct sb2_word words[2],
-                                              const struct sb2_body names[4])
-{
-    return snatchblock_write_new_sheet(room, room_length, words[0].given, words[0].word, words[1].given, words[1].word,
-                                       names[0].given, names[0].bytes.at, names[0].bytes.length, names[1].given,
-                                       names[1].bytes.at, names[1].bytes.length, names[2].given, names[2].bytes.at,
-                                       names[2].bytes.length, names[3].given, names[3].bytes.at,
-                                       names[3].bytes.length);
-}
-
 static inline uint32_t proved_charger_set_up(uint8_t *area, size_t length, const struct sb2_sample *first)
 {
     return snatchblock_charger_set_up(area, length, first->voltage, first->current, first->temperature,

@@ -1,8 +1,8 @@
 /* Holds the second program to published facts: document 01's worked examples
  * and tables, both packets of source document 001, the check word of CRC-8 and
  * the values that 002 works out. Then to properties that document 01 states, and
- * to figures worked by hand from the words of requests R-1, R-2, R-4 to R-7, R-9,
- * R-10 and R-12. */
+ * to figures worked by hand from the words of requests R-1, R-2, R-4 to R-7, R-9
+ * and R-10. */
 #include "../../second/snatchblock2.h"
 
 #include <stdio.h>
@@ -3975,180 +3975,6 @@ static void thirteen(void)
     thirteen_no_area();
 }
 
-/* ---- request R-12 */
-
-/* A date, a serial and two names in a new sheet: 17 bytes of rows, then 6F 52, 11 00, HAZEL, K-12. */
-static const uint8_t four_parts[30] = {0x84, 0x1B, 2, 17, 0, 0x1C, 2, 19, 0, 0x20, 5, 21, 0, 0x21, 4, 26, 0,
-                                       0x6F, 0x52, 0x11, 0x00, 'H', 'A', 'Z', 'E', 'L', 'K', '-', '1', '2'};
-#define PARTS bytes(four_parts, 30)
-
-/* The word of a read with these sheets, or −1 and the answer's number below it. */
-static long word_with(struct sb2_bytes service, struct sb2_bytes factory, uint8_t command)
-{
-    struct sb2_set_up in = usual;
-    uint8_t reply[SB2_REPLY_ROOM];
-    size_t length;
-    in.manufacture_date = 0x0102;
-    in.serial_number = 0x0304;
-    struct sb2_state s = made(in);
-    int answer = transact(&s, true, BYTES(0x16, command, 0x17), service, factory, reply, &length);
-    CHECK(s.error_code, answer == 0 ? 0 : 7);
-    CHECK(length, answer == 0 ? 3 : 0);
-    return answer == 0 ? reply[0] | (long)reply[1] << 8 : -1 - answer;
-}
-
-static void new_sheets_written(void)
-{
-    const struct sb2_word words[2] = {{true, 0x526F}, {true, 17}}, none[2] = {{false, 1}, {false, 2}};
-    struct sb2_body names[4] = {{true, text("HAZEL")}, {true, text("K-12")}, {false, text("no")}, {false, nothing}};
-    uint8_t room[160], full[33];
-    size_t length;
-    CHECK(sb2_sheet_write_new(words, names, room, 157, &length), 0);
-    CHECK(length, 30);
-    CHECK(memcmp(room, four_parts, 30), 0);
-    CHECK(sb2_sheet_write_new(words, names, room, 156, &length), 12);
-    CHECK(length, 0);
-    memset(full, 'x', sizeof full);
-    for (size_t i = 0; i < 4; i++)
-        names[i] = (struct sb2_body){true, bytes(full, 32)};
-    CHECK(sb2_sheet_write_new(words, names, room, 157, &length), 0);
-    CHECK(length, 157); /* 25 of rows, two words, four names */
-    CHECK(sb2_sheet_new(bytes(room, 157)), true);
-    CHECK(sb2_sheet_write_new(none, names, room, 157, &length), 0);
-    CHECK(length, 145);
-    names[3].bytes.length = 33;
-    CHECK(sb2_sheet_write_new(words, names, room, 160, &length), 12);
-}
-
-/* Cut off, with another first byte, with words of other lengths, in another order. */
-static void new_sheets_read(void)
-{
-    uint8_t room[30];
-    for (size_t cut = 0; cut <= 30; cut++) {
-        CHECK(sb2_sheet_new(bytes(four_parts, cut)), cut == 30);
-        CHECK(sb2_sheet_good(bytes(four_parts, cut)), false);
-    }
-    for (unsigned first = 0; first < 256; first++) {
-        memcpy(room, four_parts, 30);
-        room[0] = (uint8_t)first;
-        CHECK(sb2_sheet_new(bytes(room, 30)), first == 0x84);
-        CHECK(sb2_sheet_good(bytes(room, 30)), false); /* the old form has no words */
-        CHECK(sb2_sheet_new(bytes(room, 1)), first == 0x80);
-        CHECK(sb2_sheet_good(bytes(room, 1)), first == 0);
-    }
-    for (uint8_t size = 0; size < 5; size++) {
-        CHECK(sb2_sheet_new(bytes((const uint8_t[9]){0x81, 0x1B, size, 5}, 5u + size)), size == 2);
-        CHECK(sb2_sheet_new(bytes((const uint8_t[9]){0x81, 0x20, size, 5}, 5u + size)), true);
-    }
-    CHECK(sb2_sheet_new(BYTES(0x82, 0x1C, 2, 9, 0, 0x1B, 2, 11, 0, 1, 2, 3, 4)), false);
-    CHECK(sb2_sheet_new(BYTES(0x82, 0x1C, 2, 9, 0, 0x1C, 2, 11, 0, 1, 2, 3, 4)), false);
-    CHECK(sb2_sheet_new(BYTES(0x82, 0x1B, 2, 9, 0, 0x1C, 2, 12, 0, 1, 2, 3, 4)), false);
-    CHECK(sb2_sheet_new(BYTES(0x82, 0x1B, 2, 9, 0, 0x1C, 2, 11, 0, 1, 2, 3, 4)), true);
-}
-
-static void words_of_sheets(void)
-{
-    const struct sb2_bytes date = BYTES(0x81, 0x1B, 2, 5, 0, 0x05, 0x06), old = BYTES(1, 0x20, 1, 5, 0, 'x');
-    struct sb2_block block;
-    CHECK(word_with(NO_NAMES, NO_NAMES, 0x1B), 0x0102);
-    CHECK(word_with(old, BYTES(0x80), 0x1C), 0x0304);
-    CHECK(word_with(NO_NAMES, PARTS, 0x1B), 0x526F);
-    CHECK(word_with(PARTS, old, 0x1C), 17);
-    CHECK(word_with(date, PARTS, 0x1B), 0x0605);
-    CHECK(word_with(date, PARTS, 0x1C), 17);
-    CHECK(word_with(PARTS, date, 0x1B), 0x526F);
-    CHECK(word_with(date, NO_NAMES, 0x1C), 0x0304);
-    for (uint8_t command = 0x1B; command <= 0x1C; command++) {
-        CHECK(word_with(PARTS, nothing, command), -1 - 9);
-        CHECK(word_with(BYTES(0x80, 0), PARTS, command), -1 - 9);
-        CHECK(word_with(BYTES(0x81, 0x1C, 1, 5, 0, 9), NO_NAMES, command), -1 - 9);
-    }
-    CHECK(word_with(nothing, nothing, 0x09), 14800);
-    CHECK(sb2_sheet_block(date, PARTS, 0x1B, &block), 0);
-    CHECK(block.in_service && block.part.offset == 5 && block.part.length == 2, true);
-    CHECK(sb2_sheet_block(date, PARTS, 0x21, &block), 0);
-    CHECK(!block.in_service && block.part.offset == 26 && block.part.length == 4, true);
-}
-
-/* Two of the names of PARTS without its words, 18 bytes in either form. */
-static void moved_sheets(void)
-{
-    const uint8_t old[18] = {2, 0x20, 5, 9, 0, 0x21, 4, 14, 0, 'H', 'A', 'Z', 'E', 'L', 'K', '-', '1', '2'};
-    uint8_t new[18], room[40];
-    size_t length;
-    memcpy(new, old, 18);
-    new[0] = 0x82;
-    for (size_t size = 0; size <= 20; size++) {
-        memset(room, 0xA5, sizeof room);
-        CHECK(sb2_sheet_to_new(bytes(old, 18), room, size, &length), size < 18 ? 2 : 0);
-        CHECK(length, size < 18 ? 0 : 18);
-        CHECK(size < 18 ? room[0] == 0xA5 : memcmp(room, new, 18) == 0 && room[18] == 0xA5, true);
-        memset(room, 0xA5, sizeof room);
-        CHECK(sb2_sheet_to_old(bytes(new, 18), room, size, &length), size < 18 ? 2 : 0);
-        CHECK(size < 18 ? room[0] == 0xA5 : memcmp(room, old, 18) == 0 && room[18] == 0xA5, true);
-        CHECK(sb2_sheet_to_new(bytes(new, 18), room, size, &length), 9);
-        CHECK(sb2_sheet_to_old(bytes(old, 18), room, size, &length), 9);
-        CHECK(sb2_sheet_to_old(bytes(new, 17), room, size, &length), 9);
-        CHECK(sb2_sheet_to_old(PARTS, room, size, &length), 21);
-        CHECK(length, 0);
-    }
-}
-
-static void edits_of_words(void)
-{
-    SET(BYTES(0x80, 9, 9, 9, 9, 9, 9, 9), 1, 0x1C, BYTES(7, 8), 7, BYTES(0x81, 0x1C, 2, 5, 0, 7, 8, 9));
-    SET(BYTES(0x81, 0x20, 1, 5, 0, 'x', 9, 9, 9, 9, 9, 9), 6, 0x1B, BYTES(7, 8), 12,
-        BYTES(0x82, 0x1B, 2, 9, 0, 0x20, 1, 11, 0, 7, 8, 'x'));
-    SET_REFUSED(BYTES(0x81, 0x20, 1, 5, 0, 'x', 9, 9, 9, 9, 9), 6, 0x1B, BYTES(7, 8), 20);
-    SET(BYTES(0x81, 0x1B, 2, 5, 0, 1, 2), 7, 0x1B, BYTES(7, 8), 7, BYTES(0x81, 0x1B, 2, 5, 0, 7, 8));
-    REMOVE(BYTES(0x81, 0x1B, 2, 5, 0, 1, 2, 9), 7, 0x1B, 1, BYTES(0x80, 0, 0, 0, 0, 0, 0, 9));
-    REMOVE(BYTES(0x81, 0x1B, 2, 5, 0, 1, 2, 9), 7, 0x1C, 7, BYTES(0x81, 0x1B, 2, 5, 0, 1, 2, 9));
-    for (size_t size = 0; size < 34; size++) {
-        uint8_t body[33] = {0};
-        if (size != 2)
-            SET_REFUSED(BYTES(0x81, 0x1B, 2, 5, 0, 1, 2), 7, 0x1B, bytes(body, size), 19);
-        SET_REFUSED(BYTES(0, 9, 9, 9, 9, 9, 9, 9), 1, 0x1B, bytes(body, size), 18);
-    }
-    REMOVE_REFUSED(BYTES(0, 9), 1, 0x1C, 18);
-    REMOVE_REFUSED(BYTES(0x80, 9), 1, 0x1D, 18);
-    SET_REFUSED(BYTES(0x87, 9), 1, 0x1D, BYTES(1), 9);
-}
-
-/* The key of document 01's example 6, its date from set-up or a sheet. */
-static void pack_keys(void)
-{
-    const struct sb2_bytes names = BYTES(2, 0x20, 3, 9, 0, 0x21, 2, 12, 0, 'A', '/', 'B', 'P', '7');
-    const struct sb2_bytes date = BYTES(0x81, 0x1B, 2, 5, 0, 0x6F, 0x52);
-    struct sb2_set_up in = usual;
-    uint8_t room[140], area[SB2_AREA], kept[SB2_AREA];
-    size_t length;
-    in.manufacture_date = 0x0102;
-    in.serial_number = 17;
-    struct sb2_state s = made(in);
-    s.error_code = 5;
-    sb2_area_store(&s, area);
-    memcpy(kept, area, sizeof kept);
-    struct sb2_bytes lent = bytes(area, SB2_AREA);
-    CHECK(sb2_area_pack_key(lent, date, names, room, 139, &length), 0);
-    CHECK(length == 17 && memcmp(room, "A\\/B/P7/526f/0011", 17) == 0, true);
-    CHECK(sb2_area_pack_key(lent, names, date, room, 140, &length), 0);
-    CHECK(length == 17 && memcmp(room, "A\\/B/P7/526f/0011", 17) == 0, true);
-    CHECK(sb2_area_pack_key(lent, names, NO_NAMES, room, 139, &length), 0);
-    CHECK(length == 17 && memcmp(room, "A\\/B/P7/0102/0011", 17) == 0, true);
-    CHECK(sb2_area_pack_key(lent, PARTS, date, room, 139, &length), 0);
-    CHECK(length == 20 && memcmp(room, "HAZEL/K-12/526f/0011", 20) == 0, true);
-    CHECK(sb2_area_pack_key(lent, NO_NAMES, NO_NAMES, room, 139, &length), 0);
-    CHECK(length == 11 && memcmp(room, "//0102/0011", 11) == 0, true);
-    CHECK(sb2_area_pack_key(lent, names, date, room, 138, &length), 12);
-    CHECK(sb2_area_pack_key(lent, names, nothing, room, 138, &length), 9);
-    CHECK(sb2_area_pack_key(lent, nothing, date, room, 139, &length), 9);
-    CHECK(sb2_area_pack_key(bytes(area, SB2_AREA - 1), nothing, date, room, 138, &length), 1);
-    CHECK(memcmp(area, kept, sizeof kept), 0);
-    area[0] = 8; /* no error code */
-    CHECK(sb2_area_pack_key(lent, names, date, room, 139, &length), 1);
-    CHECK(length, 0);
-}
-
 int main(void)
 {
     worked_examples();
@@ -4189,12 +4015,6 @@ int main(void)
     charger();
     edits();
     thirteen();
-    new_sheets_written();
-    new_sheets_read();
-    words_of_sheets();
-    moved_sheets();
-    edits_of_words();
-    pack_keys();
     minutes_by_sums();
     either_choice();
     runs_by_history();

@@ -10,8 +10,8 @@ use borrow.Author.Tests.{eqb-true, leb-true, leb-false, lt-ltb, le-ltb}
 use lib.Dec.{eqb, ltb, leb}
 use lib.ListN.{length, get_or}
 use Rattle.area.specs.Area.{is_area, storable, loaded_of}
-use Rattle.bus_laws.proofs.Ten.{ten_read_only, ten_no_word}
-use Rattle.bus.specs.Transact.{answer_shown, pack_side, transact_answer, transact_of}
+use Rattle.bus_laws.proofs.Ten.{ten_read_only}
+use Rattle.bus.specs.Transact.{pack_side, transact_answer, transact_of}
 use Rattle.capacity.proofs.Bounds.{alike}
 use Rattle.capture.specs.Capture.{is_capture}
 use Rattle.capture.specs.Walk.{opened_of, seen_bad}
@@ -25,7 +25,7 @@ use Rattle.charger_area.specs.declared.Loaded as charger_loaded
 use Rattle.rooms.specs.Rooms.{wrote}
 use Rattle.clock.specs.Broadcast.{sample_of}
 use Rattle.commands.specs.Answers.{Side, side_answer, bare, request_answer, read_answer, write_answer}
-use Rattle.commands.specs.Commands.{kind_of, is_reserved, is_optional, is_block}
+use Rattle.commands.specs.Commands.{is_reserved, is_optional, is_block}
 use Rattle.commands.specs.declared.Kind.{Kind}
 use Rattle.commands.specs.declared.Kind.TheVariants.{ReadWrite, ReadOnly, WriteOnly, Block, Optional, Reserved}
 use Rattle.gauge_laws.specs.Minutes.{is_ten}
@@ -44,15 +44,9 @@ use Rattle.pec.specs.Messages.{ends_in_pec}
 use Rattle.pec.specs.declared.Checked.{Checked}
 use Rattle.pec.specs.declared.Compared.{Compared}
 use Rattle.pack.specs.Sound.{sound_of}
-use Rattle.pack.specs.declared.State.{State}
-use Rattle.sheets.specs.Block.{Part, of_service, of_factory, sheets_answer, good_sheets, part_of, block_of, located_by, located_of}
-use Rattle.sheets.specs.Words.{is_word}
-use Rattle.sheets.proofs.Names.{block-short}
-use Rattle.sheet.specs.Sheet.{form_for, is_sheet_of}
-use Rattle.sheet_moves.specs.Moves.{lists_word, moved, move_answer, move_wrote}
-use Rattle.pack_key.specs.PackKey.{parts_of, pack_key_wrote}
-use Rattle.sheets.specs.declared.Located.{Located}
-use Rattle.sheet_edit.specs.Edit.{holds_sheet, form_in, sheet_after, has_tag, fits, edit_answer, edit_of}
+use Rattle.sheet.specs.Block.{Part, of_service, of_factory, block_answer, good_sheets, part_of, located_by, located_of}
+use Rattle.sheet.specs.declared.Located.{Located}
+use Rattle.sheet_edit.specs.Edit.{holds_sheet, sheet_after, is_name, size_of, edit_answer, edit_of}
 use Rattle.sheet_writer.specs.Writing.{sheet_wrote, writable, short}
 use Rattle.shelf.specs.Shelf.{any_bad}
 use Rattle.shelf.proofs.Steps.{report-answer}
@@ -69,9 +63,9 @@ use Rattle.thirteen_pack.specs.Sound as thirteen
 use Rattle.thirteen_pack.specs.declared.Thirteen.{Thirteen}
 use Rattle.thirteen_pack.specs.declared.ThirteenSampled as thirteen_sampled
 use Rattle.thirteen_pack.specs.declared.ThirteenStarted as thirteen_started
-use Rattle.answers.specs.Conditions.{command_of, is_denied, side_conditions, is_bad, is_none, overflows, pack_key_conditions, edit_conditions, table_conditions}
+use Rattle.answers.specs.Conditions.{command_of, is_denied, side_conditions, is_none, overflows, edit_conditions, table_conditions}
 use Rattle.answers.specs.Lowest.{◌when◌, lowest, all_above, rising, first_holding}
-use Rattle.answers.specs.Promises.{SideLowest, TransactLowest, SetUpLowest, SampleLowest, LoadLowest, StoreLowest, ChargerTransactLowest, ChargerSampleLowest, ChargerLoadLowest, ChargerStoreLowest, ThirteenSetUpLowest, ThirteenTransactLowest, ThirteenSampleLowest, ThirteenLoadLowest, ThirteenStoreLowest, WriteKeyLowest, ReadKeyLowest, FindLowest, UnescapeLowest, BlockLowest, LocateLowest, WriteSheetLowest, MoveFirst, PackKeyLowest, EditLowest, OpenLowest, StepLowest, WriteCaptureLowest, ExchangeLowest, ComparisonLowest, ReportLowest, TableReportLowest}
+use Rattle.answers.specs.Promises.{SideLowest, TransactLowest, SetUpLowest, SampleLowest, LoadLowest, StoreLowest, ChargerTransactLowest, ChargerSampleLowest, ChargerLoadLowest, ChargerStoreLowest, ThirteenSetUpLowest, ThirteenTransactLowest, ThirteenSampleLowest, ThirteenLoadLowest, ThirteenStoreLowest, WriteKeyLowest, ReadKeyLowest, FindLowest, UnescapeLowest, BlockLowest, LocateLowest, WriteSheetLowest, EditLowest, OpenLowest, StepLowest, WriteCaptureLowest, ExchangeLowest, ComparisonLowest, ReportLowest, TableReportLowest}
 use Rattle.answers.proofs.Lowest.{first_is_lowest}
 
 -- ---- one condition
@@ -169,7 +163,7 @@ pub unescape_lowest : UnescapeLowest
 unescape_lowest part room = plain_lowest (name_in part) room
 
 pub block_lowest : BlockLowest
-unfolding sheets_answer
+unfolding block_answer
 block_lowest service factory = unless 9 (good_sheets service factory)
 
 located_served : (p : Part) → (located_by p).answer ≡ 0
@@ -198,42 +192,10 @@ not_both false b c h = refl
 
 pub write_sheet_lowest : WriteSheetLowest
 unfolding sheet_wrote writable
-write_sheet_lowest is_new es room =
-    let least : ℕ = cond is_new 157 145 in
-    answers {A = Wrote} (λ r. r.answer) (writable is_new es room) _ _
-    ∙ unless 12 (writable is_new es room)
-    ∙ ap (λ c. lowest ((12 when c) ∷ [])) (not_both (short es) (leb least (length room)) (ltb (length room) least) (not_at_least least (length room)))
-
--- three tests, each passed or the answer
-three_tests : (a b c : Bool) → cond a (cond b 21 (cond c 0 2)) 9 ≡ first_holding ((9 when not a) ∷ (21 when b) ∷ (2 when not c) ∷ [])
-unfolding first_holding
-three_tests true true c = refl
-three_tests true false true = refl
-three_tests true false false = refl
-three_tests false b c = refl
-
-pub move_first : MoveFirst
-unfolding move_wrote move_answer
-move_first to_new s room =
-    three_tests (is_sheet_of (form_for (not to_new)) s) (not to_new && lists_word s) (leb (length (moved to_new s)) (length room))
-    ∙ ap (λ c. first_holding ((9 when not (is_sheet_of (form_for (not to_new)) s)) ∷ (21 when (not to_new && lists_word s)) ∷ (2 when c) ∷ [])) (not_at_least (length (moved to_new s)) (length room))
-
--- of a pack's names none is over 32 bytes
-short_names : (s : State) (service factory room : List ℕ) → refused (parts_of s service factory).maker (parts_of s service factory).device room ≡ ltb (length room) 139
-unfolding refused parts_of
-short_names s service factory room =
-    rw (le-ltb 32 (length (block_of service factory 0x20)) (block-short service factory 0x20), le-ltb 32 (length (block_of service factory 0x21)) (block-short service factory 0x21))
-
-pub pack_key_lowest : PackKeyLowest
-unfolding pack_key_wrote key_wrote rising all_above first_holding
-pack_key_lowest s service factory room =
-    answers {A = Wrote} (λ r. r.answer) (not (sound_of s)) _ _
-    ∙ ap (cond (not (sound_of s)) 1)
-    (answers {A = Wrote} (λ r. r.answer) (not (good_sheets service factory)) _ _
-    ∙ ap (cond (not (good_sheets service factory)) 9)
-    (answers {A = Wrote} (λ r. r.answer) (refused (parts_of s service factory).maker (parts_of s service factory).device room) _ _
-    ∙ ap (λ c. cond c 12 0) (short_names s service factory room)))
-    ∙ sym (first_is_lowest (pack_key_conditions s service factory room) refl)
+write_sheet_lowest es room =
+    answers {A = Wrote} (λ r. r.answer) (writable es room) _ _
+    ∙ unless 12 (writable es room)
+    ∙ ap (λ c. lowest ((12 when c) ∷ [])) (not_both (short es) (leb 145 (length room)) (ltb (length room) 145) (not_at_least 145 (length room)))
 
 -- four tests, each passed or the answer
 by_tests : (a b c d : Bool) → cond a (cond b (cond c (cond d 0 20) 19) 18) 9 ≡ first_holding ((9 when not a) ∷ (18 when not b) ∷ (19 when not c) ∷ (20 when not d) ∷ [])
@@ -248,8 +210,8 @@ pub edit_lowest : EditLowest
 unfolding edit_of edit_answer rising all_above
 edit_lowest room stated tag to =
     let new = length (sheet_after room stated tag to) in
-    by_tests (holds_sheet room stated) (has_tag (form_in room stated).kinds tag) (fits (form_in room stated).kinds tag to) (leb new (length room))
-    ∙ rw (not_at_least new (length room)) (sym (first_is_lowest (edit_conditions room stated tag to) refl))
+    by_tests (holds_sheet room stated) (is_name tag) (leb (size_of to) 32) (leb new (length room))
+    ∙ rw (not_at_least (size_of to) 32, not_at_least new (length room)) (sym (first_is_lowest (edit_conditions room stated tag to) refl))
 
 pub open_lowest : OpenLowest
 unfolding opened_of
@@ -325,65 +287,41 @@ asks d false false wrong false bytes checked = refused (checked && wrong) ∙ fo
     refused false = refl
 
 -- a row's answer is the first of 6 to 10 that holds; only a word that is read only is answered 10
-by_row : (d : Side) (command : ℕ) (k : Kind) (read bad cut : Bool)
-    → (cut ≡ true → k ≡ ReadOnly) → (is_block k ≡ true → d.block_answer command ≡ cond bad 9 0) → (is_block k ≡ false → d.word_answer command ≡ cond bad 9 (cond cut 10 0))
+by_row : (d : Side) (command : ℕ) (k : Kind) (read good ten : Bool)
+    → (ten ≡ true → k ≡ ReadOnly) → d.block_answer command ≡ cond good 0 9 → d.word_answer command ≡ cond ten 10 0
     → cond read (read_answer d command k) (write_answer k)
-    ≡ first_holding ((6 when is_reserved k) ∷ (7 when is_optional k) ∷ (8 when is_denied read k) ∷ (9 when (read && bad)) ∷ (10 when (read && cut)) ∷ [])
+    ≡ first_holding ((6 when is_reserved k) ∷ (7 when is_optional k) ∷ (8 when is_denied read k) ∷ (9 when (read && (is_block k && not good))) ∷ (10 when (read && ten)) ∷ [])
 unfolding first_holding
-by_row d command Reserved read bad cut only block word = alike read 6
-by_row d command Optional read bad cut only block word = alike read 7
-by_row d command Block true true cut only block word = block refl
-by_row d command Block true false true only block word = absurd (let z : ◌≡◌ {A = Bool} true false = ap is_block (only refl) in let y : ◌≡◌ {A = ℕ} 0 1 = cc in omega arith)
-by_row d command Block true false false only block word = block refl
-by_row d command WriteOnly true bad cut only block word = refl
-by_row d command WriteOnly false bad cut only block word = refl
-by_row d command ReadOnly true bad cut only block word = word refl
-by_row d command ReadWrite true bad cut only block word = word refl
-by_row d command Block false bad cut only block word = refl
-by_row d command ReadOnly false bad cut only block word = refl
-by_row d command ReadWrite false bad cut only block word = refl
+by_row d command Reserved read good ten only block word = alike read 6
+by_row d command Optional read good ten only block word = alike read 7
+by_row d command Block true good true only block word = absurd (let z : ◌≡◌ {A = Bool} true false = ap is_block (only refl) in let y : ◌≡◌ {A = ℕ} 0 1 = cc in omega arith)
+by_row d command Block true true false only block word = block
+by_row d command Block true false false only block word = block
+by_row d command WriteOnly true good ten only block word = refl
+by_row d command WriteOnly false good ten only block word = refl
+by_row d command ReadOnly true good ten only block word = word
+by_row d command ReadWrite true good ten only block word = word
+by_row d command Block false good ten only block word = refl
+by_row d command ReadOnly false good ten only block word = refl
+by_row d command ReadWrite false good ten only block word = refl
 
 pub side_lowest : SideLowest
 unfolding side_answer request_of first_holding rising all_above
-side_lowest d read bytes room bad cut block word only =
+side_lowest d read bytes room good cut block word only =
     ap (λ a. cond (not d.sound) 1 (cond (ltb room d.least) 2 a))
     (asks d (foreign d.address bytes) (misshapen d.address read bytes) (not (ends_in_pec bytes)) read bytes (eqb (length bytes) 5)
     ∙ ap (λ a. cond (foreign d.address bytes) 3 (cond (misshapen d.address read bytes || (not read && bare d (eqb (length bytes) 5))) 4 (cond (miscoded read bytes) 5 a)))
-    (by_row d (command_of bytes) (d.kinds (command_of bytes)) read bad cut only block word))
-    ∙ sym (first_is_lowest (side_conditions d read bytes room bad cut) refl)
-
--- of the pack: what the sheets show is bad where one of them is, and nothing else is
-module _ (s : State) (service factory : List ℕ) (command : ℕ) where
-  nine-or-none : (good : Bool) → ◌≡◌ {A = ℕ} (cond good 0 9) (cond (not good) 9 0)
-  nine-or-none true = refl
-  nine-or-none false = refl
-
-  block-bad : is_block (kind_of command) ≡ true → sheets_answer service factory ≡ cond (is_bad service factory command) 9 0
-  unfolding sheets_answer
-  block-bad k = rw k (nine-or-none (good_sheets service factory))
-
-  word-bad : is_block (kind_of command) ≡ false → answer_shown s service factory command ≡ cond (is_bad service factory command) 9 (cond (is_ten s.pack command) 10 0)
-  unfolding sheets_answer
-  word-bad k = by-tag (is_word command) refl
-    where
-      by-good : (good ten : Bool) → (ten ≡ true → ⊥) → ◌≡◌ {A = ℕ} (cond good 0 9) (cond (not good) 9 (cond ten 10 0))
-      by-good good true no-ten = absurd (no-ten refl)
-      by-good true false no-ten = refl
-      by-good false false no-ten = refl
-
-      by-tag : (b : Bool) → is_word command ≡ b → answer_shown s service factory command ≡ cond (is_bad service factory command) 9 (cond (is_ten s.pack command) 10 0)
-      by-tag true w = rw (k, w) (by-good (good_sheets service factory) (is_ten s.pack command) (λ h. true≢false (sym w ∙ ten_no_word s.pack command h)))
-      by-tag false w = rw (k, w) (ten_exactly s command)
+    (by_row d (command_of bytes) (d.kinds (command_of bytes)) read good cut only block word))
+    ∙ sym (first_is_lowest (side_conditions d read bytes room good cut) refl)
 
 pub transact_lowest : TransactLowest
-unfolding transact_of transact_answer
+unfolding transact_of transact_answer block_answer
 transact_lowest s service factory read bytes room =
-    side_lowest (pack_side s service factory) read bytes room (is_bad service factory (command_of bytes)) (is_ten s.pack (command_of bytes))
-    (block-bad s service factory (command_of bytes)) (word-bad s service factory (command_of bytes)) (ten_read_only s.pack (command_of bytes))
+    side_lowest (pack_side s service factory) read bytes room (good_sheets service factory) (is_ten s.pack (command_of bytes)) refl (ten_exactly s (command_of bytes)) (ten_read_only s.pack (command_of bytes))
 
 pub charger_transact_lowest : ChargerTransactLowest
 unfolding charger_bus.transact_of charger_bus.transact_answer
-charger_transact_lowest s read bytes room = side_lowest (charger_bus.charger_side s) read bytes room false false (λ k. refl) (λ k. refl) (λ e. absurd (true≢false (sym e)))
+charger_transact_lowest s read bytes room = side_lowest (charger_bus.charger_side s) read bytes room true false refl refl (λ e. absurd (true≢false (sym e)))
 
 -- only words that are read only are cut off
 cut_read_only : (p : Thirteen) (command : ℕ) → is_cut_off p command ≡ true → thirteen_kind command ≡ ReadOnly
@@ -393,4 +331,4 @@ cut_read_only p command h = at (λ n. thirteen_kind n ≡ ReadOnly) command 0x11
 pub thirteen_transact_lowest : ThirteenTransactLowest
 unfolding thirteen_bus.transact_of thirteen_bus.transact_answer
 thirteen_transact_lowest s read bytes room =
-    side_lowest (thirteen_bus.thirteen_side s) read bytes room false (is_cut_off s.pack (command_of bytes)) (λ k. refl) (λ k. cut_off_exactly s.pack (command_of bytes)) (cut_read_only s.pack (command_of bytes))
+    side_lowest (thirteen_bus.thirteen_side s) read bytes room true (is_cut_off s.pack (command_of bytes)) refl (cut_off_exactly s.pack (command_of bytes)) (cut_read_only s.pack (command_of bytes))

@@ -12,7 +12,7 @@ use Rattle.charger.specs.Transact.{charger_side}
 use Rattle.charger_state.specs.declared.Charger.{Charger}
 use Rattle.charger_area.specs.Area.{charger_length, is_charger_area}
 use Rattle.commands.specs.Answers.{Side, bare}
-use Rattle.commands.specs.Commands.{kind_of, is_reserved, is_optional, is_read_only, is_write_only, is_block}
+use Rattle.commands.specs.Commands.{is_reserved, is_optional, is_read_only, is_write_only, is_block}
 use Rattle.commands.specs.declared.Kind.{Kind}
 use Rattle.frame.specs.Transactions.{foreign, misshapen, miscoded}
 use Rattle.gauge_laws.specs.Minutes.{is_ten}
@@ -21,11 +21,9 @@ use Rattle.key.specs.Key.{read_key}
 use Rattle.pack.specs.Sound.{sound_of}
 use Rattle.start.specs.declared.Setup.{Setup}
 use Rattle.pack.specs.declared.State.{State}
-use Rattle.sheets.specs.Block.{good_sheets}
-use Rattle.sheets.specs.Words.{is_word}
-use Rattle.sheet.specs.Sheet.{Entry, form_for, is_sheet_of}
-use Rattle.sheet_edit.specs.Edit.{holds_sheet, form_in, sheet_after, has_tag, fits}
-use Rattle.sheet_moves.specs.Moves.{lists_word, moved}
+use Rattle.sheet.specs.Block.{good_sheets}
+use Rattle.sheet.specs.Sheet.{Entry}
+use Rattle.sheet_edit.specs.Edit.{holds_sheet, sheet_after, is_name, size_of}
 use Rattle.sheet_writer.specs.Writing.{short}
 use Rattle.shelf.specs.Shelf.{any_bad}
 use Rattle.shelf.specs.declared.Row.{Row}
@@ -49,10 +47,10 @@ abbrev pub is_denied : Bool → Kind → Bool
 is_denied read k = cond read (is_write_only k) (is_read_only k)
 
 -- of any side of the bus. 1: state isn't sound; 2: lent reply room too short; 3: empty, or first byte isn't the address's; 4: wrong size or form, or a write
--- without PEC where it must carry one; 5: five-byte write, PEC wrong; 6: reserved command; 7: optional command not built; 8: denied; 9: a read of what is
--- bad; 10: a read that is cut off (RULES 1.1 to 1.10, 15.2)
+-- without PEC where it must carry one; 5: five-byte write, PEC wrong; 6: reserved command; 7: optional command not built; 8: denied; 9: block read that isn't
+-- good; 10: a read that is cut off (RULES 1.1 to 1.10, 15.2)
 abbrev pub side_conditions : Side → Bool → List ℕ → ℕ → Bool → Bool → List Condition
-side_conditions d read bytes room bad cut =
+side_conditions d read bytes room good cut =
     (1 when not d.sound)
     ∷ (2 when ltb room d.least)
     ∷ (3 when foreign d.address bytes)
@@ -61,18 +59,14 @@ side_conditions d read bytes room bad cut =
     ∷ (6 when is_reserved (d.kinds (command_of bytes)))
     ∷ (7 when is_optional (d.kinds (command_of bytes)))
     ∷ (8 when is_denied read (d.kinds (command_of bytes)))
-    ∷ (9 when (read && bad))
+    ∷ (9 when (read && (is_block (d.kinds (command_of bytes)) && not good)))
     ∷ (10 when (read && cut))
     ∷ []
 
--- a block, 1B or 1C, where a sheet is bad (RULES 1.9)
-abbrev pub is_bad : List ℕ → List ℕ → ℕ → Bool
-is_bad service factory command = (is_block (kind_of command) || is_word command) && not (good_sheets service factory)
-
--- of the pack: bad is what a bad sheet should show; cut off are AtRateTimeToFull in power mode and a time beyond the range (RULES 1.9, 1.10)
+-- of the pack: blocks are good where both sheets are; cut off are AtRateTimeToFull in power mode and a time beyond the range (RULES 1.9, 1.10)
 abbrev pub transact_conditions : State → List ℕ → List ℕ → Bool → List ℕ → ℕ → List Condition
 transact_conditions s service factory read bytes room =
-    side_conditions (pack_side s service factory) read bytes room (is_bad service factory (command_of bytes)) (is_ten s.pack (command_of bytes))
+    side_conditions (pack_side s service factory) read bytes room (good_sheets service factory) (is_ten s.pack (command_of bytes))
 
 -- ---- the state
 
@@ -96,7 +90,7 @@ store_conditions s room = (1 when not (storable s room)) ∷ []
 
 -- of the charger: it has no block, and nothing is cut off (RULES 14.1)
 abbrev pub charger_transact_conditions : Charger → Bool → List ℕ → ℕ → List Condition
-charger_transact_conditions s read bytes room = side_conditions (charger_side s) read bytes room false false
+charger_transact_conditions s read bytes room = side_conditions (charger_side s) read bytes room true false
 
 -- 1: state isn't sound (RULES 1.1)
 abbrev pub charger_sample_conditions : Charger → List Condition
@@ -112,9 +106,9 @@ charger_store_conditions room = (1 when not (eqb (length room) charger_length)) 
 
 -- ---- the thirteen-cell pack
 
--- its block is never bad; cut off are 11 and 13 beyond the range (RULES 15.1, 15.2, 15.7)
+-- its block is always good; cut off are 11 and 13 beyond the range (RULES 15.1, 15.2, 15.7)
 abbrev pub thirteen_transact_conditions : ThirteenState → Bool → List ℕ → ℕ → List Condition
-thirteen_transact_conditions s read bytes room = side_conditions (thirteen_side s) read bytes room false (is_cut_off s.pack (command_of bytes))
+thirteen_transact_conditions s read bytes room = side_conditions (thirteen_side s) read bytes room true (is_cut_off s.pack (command_of bytes))
 
 -- 1: state isn't sound (RULES 15.5)
 abbrev pub thirteen_sample_conditions : ThirteenState → List Condition
@@ -156,30 +150,16 @@ unescape_conditions part room = (12 when overflows (name_in part) room) ∷ (13 
 abbrev pub block_conditions : List ℕ → List ℕ → List Condition
 block_conditions service factory = (9 when not (good_sheets service factory)) ∷ []
 
--- 12: a body over 32 bytes, room under 145 for an old sheet, under 157 for a new one (RULES 1.12)
-abbrev pub write_sheet_conditions : Bool → List Entry → List ℕ → List Condition
-write_sheet_conditions is_new es room = (12 when (not (short es) || ltb (length room) (cond is_new 157 145))) ∷ []
+-- 12: a body over 32 bytes, room under 145 (RULES 1.12)
+abbrev pub write_sheet_conditions : List Entry → List ℕ → List Condition
+write_sheet_conditions es room = (12 when (not (short es) || ltb (length room) 145)) ∷ []
 
--- in the order in which a move looks for them. 9: not a sheet of the form that it takes; 21: it is back, and the sheet lists a word; 2: room shorter than the moved sheet (RULES 9.15)
-abbrev pub move_conditions : Bool → List ℕ → List ℕ → List Condition
-move_conditions to_new s room =
-    (9 when not (is_sheet_of (form_for (not to_new)) s))
-    ∷ (21 when (not to_new && lists_word s))
-    ∷ (2 when ltb (length room) (length (moved to_new s)))
-    ∷ []
-
--- 1: the state isn't sound; 9: a sheet is bad; 12: room under 139 (RULES 1.1, 1.9, 1.12)
-abbrev pub pack_key_conditions : State → List ℕ → List ℕ → List ℕ → List Condition
-pack_key_conditions s service factory room =
-    (1 when not (sound_of s)) ∷ (9 when not (good_sheets service factory)) ∷ (12 when ltb (length room) 139) ∷ []
-
--- 9: no sheet of the stated length at the room's front; 18: the tag isn't one of its form's; 19: a body over 32 bytes, or a word of other than two; 20: the sheet would be
--- longer than the room (RULES 1.9, 1.18 to 1.20)
+-- 9: no sheet of the stated length at the room's front; 18: the tag isn't 20 to 23; 19: the body is over 32 bytes; 20: the sheet would be longer than the room (RULES 1.9, 1.18 to 1.20)
 abbrev pub edit_conditions : List ℕ → ℕ → ℕ → Option (List ℕ) → List Condition
 edit_conditions room stated tag to =
     (9 when not (holds_sheet room stated))
-    ∷ (18 when not (has_tag (form_in room stated).kinds tag))
-    ∷ (19 when not (fits (form_in room stated).kinds tag to))
+    ∷ (18 when not (is_name tag))
+    ∷ (19 when ltb 32 (size_of to))
     ∷ (20 when ltb (length room) (length (sheet_after room stated tag to)))
     ∷ []
 

@@ -1,6 +1,6 @@
 -- Each public function's answer is the lowest number whose condition holds, 0 when none does.
 -- Assumes nothing.
-use Rattle.std.specs.Prelude.{ℕ, Bool, true, false, cond, List, ◌≡◌}
+use Rattle.std.specs.Prelude.{ℕ, Bool, true, cond, List, ◌≡◌}
 use Rattle.std.proofs.Math.Option.{Option}
 use Rattle.area.specs.Area.{loaded_of, stored_of}
 use Rattle.bus.specs.Transact.{transact_of}
@@ -12,7 +12,6 @@ use Rattle.charger_state.specs.declared.Charger.{Charger}
 use Rattle.charger_area.specs.Area as charger_area
 use Rattle.clock.specs.Broadcast.{sample_of}
 use Rattle.commands.specs.Answers.{Side, side_answer}
-use Rattle.commands.specs.Commands.{is_block}
 use Rattle.commands.specs.declared.Kind.TheVariants.{ReadOnly}
 use Rattle.frame.specs.Transactions.{request_of}
 use Rattle.names.specs.Names.{name_in, plain_wrote}
@@ -23,31 +22,28 @@ use Rattle.pack.specs.declared.Sample.{Sample}
 use Rattle.start.specs.declared.Setup.{Setup}
 use Rattle.pack.specs.declared.State.{State}
 use Rattle.pec.specs.Messages.{exchange_check, bit_comparison}
-use Rattle.sheets.specs.Block.{sheets_answer, located_of}
+use Rattle.sheet.specs.Block.{block_answer, located_of}
 use Rattle.sheet.specs.Sheet.{Entry}
-use Rattle.pack_key.specs.PackKey.{pack_key_wrote}
 use Rattle.sheet_edit.specs.Edit.{edit_of}
-use Rattle.sheet_moves.specs.Moves.{move_wrote}
 use Rattle.sheet_writer.specs.Writing.{sheet_wrote}
 use Rattle.shelf.specs.Shelf.{report_of}
 use Rattle.shelf.specs.declared.Row.{Row}
 use Rattle.shelf_table.specs.Table.{table_wrote}
-use Rattle.answers.specs.Conditions.{command_of, side_conditions, transact_conditions, set_up_conditions, sample_conditions, load_conditions, store_conditions, charger_transact_conditions, charger_sample_conditions, charger_load_conditions, charger_store_conditions, thirteen_transact_conditions, thirteen_sample_conditions, thirteen_load_conditions, thirteen_store_conditions, write_key_conditions, read_key_conditions, unescape_conditions, block_conditions, write_sheet_conditions, move_conditions, pack_key_conditions, edit_conditions, capture_conditions, step_conditions, write_capture_conditions, exchange_conditions, comparison_conditions, report_conditions, table_conditions}
-use Rattle.answers.specs.Lowest.{lowest, first_holding}
+use Rattle.answers.specs.Conditions.{command_of, side_conditions, transact_conditions, set_up_conditions, sample_conditions, load_conditions, store_conditions, charger_transact_conditions, charger_sample_conditions, charger_load_conditions, charger_store_conditions, thirteen_transact_conditions, thirteen_sample_conditions, thirteen_load_conditions, thirteen_store_conditions, write_key_conditions, read_key_conditions, unescape_conditions, block_conditions, write_sheet_conditions, edit_conditions, capture_conditions, step_conditions, write_capture_conditions, exchange_conditions, comparison_conditions, report_conditions, table_conditions}
+use Rattle.answers.specs.Lowest.{lowest}
 use Rattle.thirteen.specs.Transact as thirteen_bus
 use Rattle.thirteen_area.specs.Area as thirteen_area
 use Rattle.thirteen_pack.specs.Sample as thirteen_sample
 use Rattle.thirteen_pack.specs.SetUp as thirteen_start
 use Rattle.thirteen_pack.specs.declared.ThirteenState.{ThirteenState}
 
--- a transaction with any side of the bus, whose blocks and words are answered 9 where they are bad, and whose words, read only, 10 where they are cut off
+-- a transaction with any side of the bus, whose blocks are answered 9 where they aren't good, and whose words, read only, 10 where they are cut off
 abbrev pub SideLowest : Type 0
 SideLowest =
-    (d : Side) (read : Bool) (bytes : List ℕ) (room : ℕ) (bad cut : Bool)
-    → (is_block (d.kinds (command_of bytes)) ≡ true → d.block_answer (command_of bytes) ≡ cond bad 9 0)
-    → (is_block (d.kinds (command_of bytes)) ≡ false → d.word_answer (command_of bytes) ≡ cond bad 9 (cond cut 10 0))
+    (d : Side) (read : Bool) (bytes : List ℕ) (room : ℕ) (good cut : Bool)
+    → d.block_answer (command_of bytes) ≡ cond good 0 9 → d.word_answer (command_of bytes) ≡ cond cut 10 0
     → (cut ≡ true → d.kinds (command_of bytes) ≡ ReadOnly)
-    → side_answer d (request_of d.address read bytes) room ≡ lowest (side_conditions d read bytes room bad cut)
+    → side_answer d (request_of d.address read bytes) room ≡ lowest (side_conditions d read bytes room good cut)
 
 -- `transact`
 abbrev pub TransactLowest : Type 0
@@ -117,23 +113,15 @@ FindLowest = (bytes : List ℕ) → (found_of (read_key bytes)).answer ≡ lowes
 abbrev pub UnescapeLowest : Type 0
 UnescapeLowest = (part room : List ℕ) → (plain_wrote (name_in part) room).answer ≡ lowest (unescape_conditions part room)
 
--- `sheets_answer`, `locate`, `write_sheet` and `write_new_sheet`
+-- `block_answer`, `locate`, `write_sheet`
 abbrev pub BlockLowest : Type 0
-BlockLowest = (service factory : List ℕ) → sheets_answer service factory ≡ lowest (block_conditions service factory)
+BlockLowest = (service factory : List ℕ) → block_answer service factory ≡ lowest (block_conditions service factory)
 
 abbrev pub LocateLowest : Type 0
 LocateLowest = (service factory : List ℕ) (tag : ℕ) → (located_of service factory tag).answer ≡ lowest (block_conditions service factory)
 
 abbrev pub WriteSheetLowest : Type 0
-WriteSheetLowest = (is_new : Bool) (es : List Entry) (room : List ℕ) → (sheet_wrote is_new es room).answer ≡ lowest (write_sheet_conditions is_new es room)
-
--- `to_new` and `to_old`: the first in their own order
-abbrev pub MoveFirst : Type 0
-MoveFirst = (to_new : Bool) (s room : List ℕ) → (move_wrote to_new s room).answer ≡ first_holding (move_conditions to_new s room)
-
--- `write_pack_key`
-abbrev pub PackKeyLowest : Type 0
-PackKeyLowest = (s : State) (service factory room : List ℕ) → (pack_key_wrote s service factory room).answer ≡ lowest (pack_key_conditions s service factory room)
+WriteSheetLowest = (es : List Entry) (room : List ℕ) → (sheet_wrote es room).answer ≡ lowest (write_sheet_conditions es room)
 
 -- `set` and `remove`
 abbrev pub EditLowest : Type 0

@@ -26,7 +26,7 @@ pub const RECENT: usize = TIMERS + 12;
 pub const LENGTH: usize = RECENT + 247;
 
 // What an area holds.
-#[derive(Drop)]
+#[derive(Clone, Copy)]
 pub struct Loaded {
     pub answer: u8,
     pub state: State,

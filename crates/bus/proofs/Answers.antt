@@ -4,24 +4,20 @@ use Prim.Native.Nat.{ℕ, ◌<◌, ◌≤◌}
 use mathlib.Core.Bool.{Bool, true, false, cond}
 use mathlib.Core.List.{List, []}
 use mathlib.Core.Path.{◌≡◌, refl, ap, ap₂, sym, ◌∙◌}
-use mathlib.Core.Logic.{◌⊎◌, inl, inr}
 use lib.ListN.{length}
-use Rattle.bus.specs.Transact.{shown_in, pack_side, pack_after, outcome, asked, request_given, transact_answer, transact_reply, transact_of, reply_room}
+use Rattle.bus.specs.Transact.{pack_side, pack_after, outcome, asked, request_given, transact_answer, transact_reply, transact_of, reply_room}
 use Rattle.commands.proofs.Answers as commands
 use Rattle.commands.specs.Answers.{request_answer, served, side_reply, row_reply}
 use Rattle.commands.specs.declared.Kind.TheVariants.{ReadOnly}
 use Rattle.frame.specs.Transactions.{reply_of, word_body}
 use Rattle.frame.specs.declared.Request.{Request}
 use Rattle.frame.specs.declared.Request.TheVariants.{Refused, Read, Write}
-use Rattle.gauge.specs.Word.{given_of, word_of, shown_of}
-use Rattle.gauge.specs.declared.Shown.{Shown}
+use Rattle.gauge.specs.Word.{given_of, word_of}
 use Rattle.minutes.proofs.Laws.{zero_or_ten}
 use Rattle.pack.specs.Sound.{sound_of}
 use Rattle.pack.specs.declared.Pack.{Pack}
 use Rattle.pack.specs.declared.State.{State}
 use Rattle.rooms.specs.Rooms.{placed}
-use Rattle.sheets.specs.Block.{good_sheets, sheets_answer}
-use Rattle.sheets.specs.Words.{is_word, word_or}
 use Rattle.written.specs.Written.{pack_written}
 
 -- ---- the answer
@@ -96,37 +92,8 @@ by_request s service factory read bytes room request sound fits e = (
   ap (λ (x : List ℕ). placed x room) (sym (by-reply s service factory read bytes (length room) request sound fits e)),
 )
 
--- ---- a word read is answered 0, 9 or 10
+-- ---- a word read is served, with answer 0 or 10
 
-module _ (s : State) (service factory : List ℕ) (command : ℕ) where
-  -- a word that no sheet lists is the register's own
-  pub own-word : is_word command ≡ false → shown_in s service factory command ≡ shown_of s command
-  own-word e = rw e
-
-  pub listed_word : is_word command ≡ true → good_sheets service factory ≡ true
-      → shown_in s service factory command ≡ record { answer = 0; word = word_or service factory command (word_of s command) }
-  unfolding sheets_answer
-  listed_word e good = rw (e, good)
-
-  pub bad-sheet : is_word command ≡ true → good_sheets service factory ≡ false → shown_in s service factory command ≡ record { answer = 9; word = 0 }
-  unfolding sheets_answer
-  bad-sheet e bad = rw (e, bad)
-
-  -- but for 9 it is served
-  pub shown-served : ((shown_in s service factory command).answer ≡ 9 → ⊥) → ((shown_in s service factory command).answer ≡ 0) ⊎ ((shown_in s service factory command).answer ≡ 10)
-  shown-served other = by-tag (is_word command) refl
-    where
-      by-sheets : (b : Bool) → is_word command ≡ true → good_sheets service factory ≡ b → ((shown_in s service factory command).answer ≡ 0) ⊎ ((shown_in s service factory command).answer ≡ 10)
-      by-sheets true e good = inl (ap (λ (x : Shown). x.answer) (listed_word e good))
-      by-sheets false e bad = absurd (other (ap (λ (x : Shown). x.answer) (bad-sheet e bad)))
-
-      by-tag : (b : Bool) → is_word command ≡ b → ((shown_in s service factory command).answer ≡ 0) ⊎ ((shown_in s service factory command).answer ≡ 10)
-      by-tag true e = by-sheets (good_sheets service factory) e refl
-      by-tag false e = rw e (zero_or_ten (given_of s command))
-
-  -- the reply to a read of a register's own word
-  pub word-reply : (bytes : List ℕ) → is_word command ≡ false
-      → reply_of bytes (word_body (word_of s command)) ≡ row_reply (pack_side s service factory) bytes command ReadOnly
-  word-reply bytes e =
-      commands.served-reply (zero_or_ten (given_of s command)) (reply_of bytes (word_body (word_of s command)))
-      ∙ ap (λ (x : Shown). cond (served x.answer) (reply_of bytes (word_body x.word)) []) (sym (own-word e))
+pub word_reply : (s : State) (service factory bytes : List ℕ) (command : ℕ)
+    → reply_of bytes (word_body (word_of s command)) ≡ row_reply (pack_side s service factory) bytes command ReadOnly
+word_reply s service factory bytes command = commands.served-reply (zero_or_ten (given_of s command)) (reply_of bytes (word_body (word_of s command)))

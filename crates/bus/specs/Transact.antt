@@ -9,28 +9,12 @@ use Rattle.frame.specs.Transactions.{request_of, block_body}
 use Rattle.frame.specs.declared.Request.{Request}
 use Rattle.frame.specs.declared.Request.TheVariants.{Refused, Read, Write}
 use Rattle.gauge.specs.Word.{word_of, word_answer}
-use Rattle.gauge.specs.declared.Shown.{Shown}
 use Rattle.pack.specs.Sound.{sound_of}
 use Rattle.pack.specs.declared.Pack.{Pack}
 use Rattle.pack.specs.declared.State.{State}
 use Rattle.rooms.specs.Rooms.{placed}
-use Rattle.sheets.specs.Block.{good_sheets, block_of, sheets_answer}
-use Rattle.sheets.specs.Words.{is_word, word_or}
+use Rattle.sheet.specs.Block.{block_of, block_answer}
 use Rattle.written.specs.Written.{pack_written}
-
--- ---- what a word read shows
-
--- its answer: of 1B and 1C 9 where a sheet is bad, of every other word what comes with its register (RULES 1.9, 1.10)
-abbrev pub answer_shown : State → List ℕ → List ℕ → ℕ → ℕ
-answer_shown s service factory command = cond (is_word command) (sheets_answer service factory) (word_answer s command)
-
--- the word: of 1B and 1C the sheets', else set-up's, of every other command its register's; with 9 it is 0 (RULES 2.4, 9.13)
-abbrev pub word_shown : State → List ℕ → List ℕ → ℕ → ℕ
-word_shown s service factory command =
-    cond (is_word command) (cond (good_sheets service factory) (word_or service factory command (word_of s command)) 0) (word_of s command)
-
-abbrev pub shown_in : State → List ℕ → List ℕ → ℕ → Shown
-shown_in s service factory command = record { answer = answer_shown s service factory command; word = word_shown s service factory command }
 
 -- ---- the pack's side of the bus
 
@@ -44,9 +28,9 @@ pack_side s service factory =
       must_check = false;
       least = 34;
       sound = sound_of s;
-      word_answer = λ command. answer_shown s service factory command;
-      word = λ command. word_shown s service factory command;
-      block_answer = λ command. sheets_answer service factory;
+      word_answer = λ command. word_answer s command;
+      word = λ command. word_of s command;
+      block_answer = λ command. block_answer service factory;
       block = λ command. block_body (block_of service factory command);
     }
 

@@ -1,20 +1,21 @@
 // Transactions: the answer to every byte string that the driver gives.
 ghost use Rattle.std.specs.Prelude.{◌≡◌, true, cond, ◌≤◌, length};
-ghost use Rattle.bus.specs.Transact.{shown_in, pack_side, outcome, row_given, transact_of, reply_room};
+ghost use Rattle.bus.specs.Transact.{pack_side, outcome, row_given, transact_of, reply_room};
 ghost use Rattle.commands.specs.Answers.{write_answer, served, row_reply};
 ghost use Rattle.commands.specs.Commands.{kind_of};
-ghost use Rattle.commands.specs.declared.Kind.TheVariants.{ReadOnly, Block};
+ghost use Rattle.commands.specs.declared.Kind.TheVariants.{Block};
+ghost use Rattle.frame.specs.Transactions.{reply_of, word_body};
+ghost use Rattle.gauge.specs.Word.{word_of, word_answer};
 ghost use Rattle.pack.specs.Sound.{sound_of};
 ghost use Rattle.rooms.specs.Rooms.{placed};
 ghost use Rattle.written.specs.Written.{pack_written};
 
 use commands::Kind;
 use frame::Request;
-use gauge::Shown;
 use pack::{Pack, State};
 
 // What a transaction gives back: its answer, the state left, the number of reply bytes.
-#[derive(Drop)]
+#[derive(Clone, Copy)]
 pub struct Transacted {
     pub answer: u8,
     pub state: State,
@@ -45,39 +46,13 @@ fn unchanged(s: State, answer: u8, length: usize) -> Transacted
     answered(s, answer, pack, length)
 }
 
-// What a word read shows: 1B and 1C as the sheets list them, 9 where one is bad.
-fn show<'a>(s: State, service: &'a [u8], factory: &'a [u8], command: u8) -> Shown
-    requires { sound_of s ≡ true }
-    ensures { result ≡ shown_in s service.now factory.now command }
+// A word read, with the answer that comes with the word.
+fn serve_word(s: State, command: u8, bytes: &[u8], room: &mut [u8]) -> Transacted
+    requires { (sound_of s ≡ true) × (34 ≤ length room.old) }
+    ensures result { result ≡ outcome s (word_answer s command) s.pack (length (reply_of bytes.now (word_body (word_of s command)))) }
+    ensures memory { room.new ≡ placed (reply_of bytes.now (word_body (word_of s command))) room.old }
 {
     let shown = gauge::show(s, command);
-    if !sheets::is_word(command) {
-        return shown;
-    }
-    if !sheets::good_sheets(service, factory) {
-        return Shown { answer: 9, word: 0 };
-    }
-    let word = sheets::word_or(service, factory, command, shown.word);
-    Shown { answer: 0, word }
-}
-
-// A word read, with the answer that comes with the word.
-fn serve_word<'a>(
-    s: State,
-    service: &'a [u8],
-    factory: &'a [u8],
-    command: u8,
-    bytes: &[u8],
-    room: &mut [u8],
-) -> Transacted
-    requires { (sound_of s ≡ true) × (34 ≤ length room.old) }
-    ensures result { result ≡ row_given s service.now factory.now bytes.now command ReadOnly }
-    ensures memory { room.new ≡ placed (row_reply (pack_side s service.now factory.now) bytes.now command ReadOnly) room.old }
-{
-    let shown = show(s, service, factory, command);
-    if shown.answer == 9 {
-        return unchanged(s, 9, 0);
-    }
     let length = frame::put_word(room, bytes, shown.word);
     unchanged(s, shown.answer, length)
 }
@@ -95,11 +70,11 @@ fn serve_block<'a>(
     ensures result { result ≡ row_given s service.now factory.now bytes.now command Block }
     ensures memory { room.new ≡ placed (row_reply (pack_side s service.now factory.now) bytes.now command Block) room.old }
 {
-    let answer = sheets::sheets_answer(service, factory);
+    let answer = sheet::block_answer(service, factory);
     if answer != 0 {
         return unchanged(s, answer, 0);
     }
-    let name = sheets::block(service, factory, command);
+    let name = sheet::block(service, factory, command);
     let length = frame::put_block(room, bytes, name);
     unchanged(s, 0, length)
 }
@@ -122,8 +97,8 @@ fn serve_read<'a>(
         Kind::Optional => unchanged(s, 7, 0),
         Kind::WriteOnly => unchanged(s, 8, 0),
         Kind::Block => serve_block(s, service, factory, command, bytes, room),
-        Kind::ReadOnly => serve_word(s, service, factory, command, bytes, room),
-        Kind::ReadWrite => serve_word(s, service, factory, command, bytes, room),
+        Kind::ReadOnly => serve_word(s, command, bytes, room),
+        Kind::ReadWrite => serve_word(s, command, bytes, room),
     }
 }
 
@@ -139,7 +114,7 @@ fn serve_write(s: State, command: u8, word: u16) -> Transacted
     answered(s, 0, pack, 0)
 }
 
-// What the driver's bytes and mark are answered; no sheet is looked at unless a block, 1B or 1C is read.
+// What the driver's bytes and mark are answered; no sheet is looked at unless a block is read.
 pub fn transact<'a>(
     s: State,
     service: &'a [u8],

@@ -15,14 +15,14 @@ use Rattle.gauge_laws.proofs.Minutes.{ten_exactly}
 use Rattle.gauge_laws.specs.Minutes.{is_ten}
 use Rattle.pack.specs.Sound.{sound_of}
 use Rattle.pack.specs.declared.State.{State}
-use Rattle.sheets.specs.Block.{good_sheets, sheets_answer}
+use Rattle.sheet.specs.Block.{good_sheets, block_answer}
 
 rows_by_ten : (s : State) (nine : ℕ) → read_rows (λ n. word_answer s n) nine ≡ read_rows (λ n. cond (is_ten s.pack n) 10 0) nine
 rows_by_ten s nine = simp (ten_exactly s)
 
 in_rows : (s : State) (c : Call) (command : ℕ) → command < 256 → sound_of s ≡ true → 34 ≤ c.room → Reads c command
     → answer s c ≡ get_or (read_rows (λ n. word_answer s n) (cond (good_sheets c.service c.factory) 0 9)) command 0
-unfolding transact_answer kind_of sheets_answer given_of
+unfolding transact_answer kind_of block_answer given_of
 in_rows s c command l sound room r = read_in_rows (visit s c) command _ refl l (sound, room) r
 
 pub read_row : ReadRow

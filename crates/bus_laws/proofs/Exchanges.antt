@@ -1,25 +1,21 @@
 -- What holds of any side of the bus holds of the pack at 0x16: served replies are right, at their length; exchanges differ; a command misheard shows up.
 -- Assumes nothing.
-use Prim.Native.Nat.{ℕ, ◌<◌}
-use mathlib.Core.Bool.{Bool, true, false, cond}
-use mathlib.Core.List.{List}
-use mathlib.Core.Path.{◌≡◌, refl}
+use Prim.Native.Nat.{ℕ, zero, suc, ◌-◌}
+use mathlib.Core.List.{List, [], ◌∷◌}
 use native.Mathlib.Omega.{arith}
-use Rattle.bus.specs.Transact.{word_shown, pack_side, transact_answer, transact_reply}
+use lib.ListN.{drop}
+use Rattle.bus.specs.Transact.{pack_side, transact_answer, transact_reply}
 use Rattle.bus_laws.specs.Calls.{Call, visit, Exchanged}
 use Rattle.bus_laws.specs.Promises.{PackReplied, PackPasses, PackAccepted, PackLength, PackApart, PackMisheard}
 use Rattle.commands_laws.proofs.Visits as visits
 use Rattle.commands_laws.specs.Visits.{BlockFits, VisitExchanged}
 use Rattle.frame_laws.proofs.Replies.{block_bytes}
-use Rattle.gauge.specs.Word.{word_of}
 use Rattle.gauge_laws.proofs.Range.{word_below}
 use Rattle.pack.specs.declared.State.{State}
+use Rattle.rooms.proofs.Rooms.{first_bytes}
 use Rattle.rooms.specs.Rooms.{Bytes}
-use Rattle.sheets.proofs.Names.{block-short}
-use Rattle.sheets.proofs.Words as sheet_words
-use Rattle.sheets.proofs.Names as sheet_names
-use Rattle.sheets.specs.Words.{is_word, word_or}
-use Rattle.sheets.specs.Block.{good_sheets, block_of}
+use Rattle.sheet.proofs.Names.{block-short}
+use Rattle.sheet.specs.Block.{Part, of_service, of_factory, part_of, part_bytes, block_of}
 
 pub served_reply : PackReplied
 unfolding transact_answer transact_reply
@@ -43,17 +39,18 @@ exchange_length s c command r v = visits.exchange-length (visit s c) command r v
 
 -- ---- what the pack shows are bytes
 
--- a word of the sheets is two of their bytes, or set-up's
-shown_below : (s : State) (service factory : List ℕ) (command : ℕ) → word_of s command < 65536 → Bytes service → Bytes factory → word_shown s service factory command < 65536
-shown_below s service factory command below hs hf = by-tag (is_word command) refl
-  where
-    by-sheets : (b : Bool) → good_sheets service factory ≡ b → is_word command ≡ true → cond (good_sheets service factory) (word_or service factory command (word_of s command)) 0 < 65536
-    by-sheets true good w = rw good (sheet_words.word_below service factory command (word_of s command) good w hs hf below)
-    by-sheets false bad w = rw bad (omega arith)
+bytes_drop : (n : ℕ) (xs : List ℕ) → Bytes xs → Bytes (drop n xs)
+bytes_drop zero xs h = h
+bytes_drop (suc n) [] h = tt
+bytes_drop (suc n) (x ∷ xs) h = bytes_drop n xs h.1
 
-    by-tag : (b : Bool) → is_word command ≡ b → word_shown s service factory command < 65536
-    by-tag true w = rw w (by-sheets (good_sheets service factory) refl w)
-    by-tag false w = rw w below
+name_bytes : (service factory : List ℕ) (tag : ℕ) → Bytes service → Bytes factory → Bytes (block_of service factory tag)
+unfolding block_of
+name_bytes service factory tag hs hf = go (part_of service factory tag)
+  where
+    go : (p : Part) → Bytes (part_bytes p service factory)
+    go (of_service a e) = first_bytes (e - a) (drop a service) (bytes_drop a service hs)
+    go (of_factory a e) = first_bytes (e - a) (drop a factory) (bytes_drop a factory hf)
 
 exchanged : (s : State) (c : Call) → Exchanged s c → VisitExchanged (visit s c)
 unfolding transact_answer
@@ -64,12 +61,10 @@ exchanged s c x =
       is-served = x.is-served;
       address = omega arith;
       a_byte = x.a_byte;
-      word =
-          shown_below s c.service c.factory x.command (word_below s x.command (visits.served-heard (visit s c) x.is-served).0 x.fits) x.service
-          x.factory;
+      word = word_below s x.command (visits.served-heard (visit s c) x.is-served).0 x.fits;
       block =
           block_bytes (block_of c.service c.factory x.command) (block-short c.service c.factory x.command)
-          (sheet_names.block-bytes c.service c.factory x.command x.service x.factory);
+          (name_bytes c.service c.factory x.command x.service x.factory);
     }
 
 pub exchanges_apart : PackApart

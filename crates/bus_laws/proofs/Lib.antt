@@ -8,4 +8,3 @@ pub mod EveryRow
 pub mod WrongReadings
 pub mod Status
 pub mod Ten
-pub mod Words

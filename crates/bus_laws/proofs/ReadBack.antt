@@ -6,8 +6,8 @@ use mathlib.Core.Path.{◌≡◌, refl, sym, ap, ap₂, ◌∙◌}
 use native.Mathlib.Omega.{arith}
 use borrow.Author.Tests.{ne_eqb, le-leb, leb-true}
 use lib.Dec.{leb, eqb}
-use Rattle.bus.proofs.Answers.{by-outcome, own-word}
-use Rattle.bus.specs.Transact.{shown_in, pack_side, pack_after, transact_of}
+use Rattle.bus.proofs.Answers.{by-outcome}
+use Rattle.bus.specs.Transact.{pack_side, pack_after, transact_of}
 use Rattle.bus.specs.declared.Transacted.{Transacted}
 use Rattle.bus_laws.proofs.Exchanges.{served_reply}
 use Rattle.bus_laws.proofs.Served.{past_two, read-answer, writes_asked, write-answer}
@@ -20,15 +20,13 @@ use Rattle.commands.specs.declared.Kind.TheVariants.{ReadWrite, ReadOnly, Block,
 use Rattle.frame.specs.Transactions.{reply_of, word_body}
 use Rattle.frame.specs.declared.Request.{Request}
 use Rattle.frame.specs.declared.Request.TheVariants.{Write}
-use Rattle.gauge.specs.Word.{given_of, word_of, word_answer, shown_of}
-use Rattle.gauge.specs.declared.Shown.{Shown}
+use Rattle.gauge.specs.Word.{given_of, word_of, word_answer}
 use Rattle.gauge_laws.proofs.Minutes.{ten_exactly}
 use Rattle.gauge_laws.proofs.Words as words
 use Rattle.pack.specs.Sound.{sound_of}
 use Rattle.pack.specs.declared.Pack.{Pack}
 use Rattle.pack.specs.declared.State.{State}
 use Rattle.registers.specs.Registers.{bit}
-use Rattle.sheets.specs.Words.{is_word}
 use Rattle.written.specs.Written.{bit_set, host_written, pack_written}
 
 -- ---- a served write is one to 00 to 04
@@ -61,10 +59,6 @@ answered s command l = ten_exactly s command ∙ simp (other 0x05 (omega arith),
     other : (key : ℕ) → 5 ≤ key → eqb command key ≡ false
     other key h = ne_eqb command key (λ e. omega (arith, l, h, e))
 
--- and no sheet lists them
-own : (command : ℕ) → command ≤ 4 → is_word command ≡ false
-own command l = simp (ne_eqb command 0x1B (λ e. omega (arith, l, e)), ne_eqb command 0x1C (λ e. omega (arith, l, e)))
-
 -- ---- the word that a register keeps
 
 kept : (p : Pack) (code command word : ℕ) → command ≤ 4 → word_of (record { error = code; pack = pack_written p command word }) command ≡ kept_word command word
@@ -96,7 +90,6 @@ pub written_read : WrittenRead
 written_read s w t r command word writes taken sound pack-left reads room =
     served_reply t r command reads given
     ∙ ap (λ (k : Kind). reply_of r.bytes (read_body (pack_side t r.service r.factory) command k)) row
-    ∙ ap (λ (x : Shown). reply_of r.bytes (word_body x.word)) own-shown
     ∙ ap (λ (x : ℕ). reply_of r.bytes (word_body x)) word_kept
   where
     two : (sound_of s ≡ true) × (34 ≤ w.room)
@@ -111,13 +104,10 @@ written_read s w t r command word writes taken sound pack-left reads room =
     row : kind_of command ≡ ReadWrite
     row = five_rows command five
 
-    own-shown : shown_in t r.service r.factory command ≡ shown_of t command
-    own-shown = own-word t r.service r.factory command (own command five)
-
     given : served (answer t r) ≡ true
     given =
         ap (λ (n : ℕ). served n)
-        (read-answer t r command sound room reads ∙ ap (λ (k : Kind). read_answer (pack_side t r.service r.factory) command k) row ∙ ap (λ (x : Shown). x.answer) own-shown ∙ answered t command five)
+        (read-answer t r command sound room reads ∙ ap (λ (k : Kind). read_answer (pack_side t r.service r.factory) command k) row ∙ answered t command five)
 
     pack-kept : t.pack ≡ pack_written s.pack command word
     pack-kept =

@@ -15,8 +15,7 @@ use Rattle.commands.specs.declared.Kind.TheVariants.{ReadWrite, ReadOnly, WriteO
 use Rattle.gauge_laws.proofs.Minutes.{ten_exactly, of_five}
 use Rattle.gauge_laws.specs.Minutes.{is_ten}
 use Rattle.pack.specs.declared.Pack.{Pack}
-use Rattle.sheets.specs.Block.{good_sheets, sheets_answer}
-use Rattle.sheets.specs.Words.{is_word}
+use Rattle.sheet.specs.Block.{good_sheets, block_answer}
 
 no_nine : (good : Bool) → ◌≡◌ {A = ℕ} (cond good 0 9) 10 → ⊥
 no_nine true h = omega (arith, h)
@@ -31,14 +30,9 @@ pub ten_read_only : (p : Pack) (command : ℕ) → is_ten p command ≡ true →
 unfolding kind_of
 ten_read_only p command h = of_five (λ n. kind_of n ≡ ReadOnly) p command h refl refl refl refl refl
 
--- and no word of the sheets
-pub ten_no_word : (p : Pack) (command : ℕ) → is_ten p command ≡ true → is_word command ≡ false
-ten_no_word p command h = of_five (λ n. is_word n ≡ false) p command h refl refl refl refl refl
-
 pub ten_answered : TenAnswered
-unfolding sheets_answer
-ten_answered s c command sound room r =
-    (λ h. by_kind (kind_of command) (sym row ∙ h), λ h. row ∙ ap (read_answer side command) (ten_read_only s.pack command h) ∙ word (ten_no_word s.pack command h) ∙ ap (λ (b : Bool). cond b 10 0) h)
+unfolding block_answer
+ten_answered s c command sound room r = (λ h. by_kind (kind_of command) (sym row ∙ h), λ h. row ∙ ap (read_answer side command) (ten_read_only s.pack command h) ∙ word ∙ ap (λ (b : Bool). cond b 10 0) h)
   where
     side : Side
     side = pack_side s c.service c.factory
@@ -46,17 +40,13 @@ ten_answered s c command sound room r =
     row : answer s c ≡ read_answer side command (kind_of command)
     row = read-answer s c command sound room r
 
-    word : is_word command ≡ false → side.word_answer command ≡ cond (is_ten s.pack command) 10 0
-    word w = rw w (ten_exactly s command)
-
-    by_word : (b : Bool) → is_word command ≡ b → side.word_answer command ≡ 10 → is_ten s.pack command ≡ true
-    by_word true w h = absurd (no_nine (good_sheets c.service c.factory) (rw w at h))
-    by_word false w h = no_zero (is_ten s.pack command) (sym (word w) ∙ h)
+    word : side.word_answer command ≡ cond (is_ten s.pack command) 10 0
+    word = ten_exactly s command
 
     by_kind : (k : Kind) → read_answer side command k ≡ 10 → is_ten s.pack command ≡ true
     by_kind Reserved h = absurd (omega (arith, h))
     by_kind Optional h = absurd (omega (arith, h))
     by_kind WriteOnly h = absurd (omega (arith, h))
     by_kind Block h = absurd (no_nine (good_sheets c.service c.factory) h)
-    by_kind ReadOnly h = by_word (is_word command) refl h
-    by_kind ReadWrite h = by_word (is_word command) refl h
+    by_kind ReadOnly h = no_zero (is_ten s.pack command) (sym word ∙ h)
+    by_kind ReadWrite h = no_zero (is_ten s.pack command) (sym word ∙ h)

@@ -1,7 +1,7 @@
 -- What holds of every call of `transact`: the theorems of `proofs/`.
 -- Assumes nothing.
 use Rattle.std.specs.Prelude.{ℕ, ◌*◌, ◌/◌, ◌%◌, ◌≤◌, ◌<◌, Bool, true, false, cond, List, ◌∷◌, ◌++◌, ◌≡◌, length, get_or}
-use Rattle.bus.specs.Transact.{shown_in, outcome, transact_of, reply_room}
+use Rattle.bus.specs.Transact.{outcome, transact_of, reply_room}
 use Rattle.bus_laws.specs.Calls.{Call, result, answer, reply, visit, exchange, Idle, Reads, Writes, ReadsOnly, SameRegisters, kept_word, Exchanged}
 use Rattle.bus_laws.specs.Rows.{read_rows, write_rows}
 use Rattle.commands.specs.Answers.{code_after, served}
@@ -11,7 +11,7 @@ use Rattle.commands.specs.declared.Kind.TheVariants.{Optional}
 use Rattle.commands_laws.specs.Visits.{visit_body}
 use Rattle.frame.specs.Transactions.{read_bytes, reply_of, word_body}
 use Rattle.frame_laws.specs.Exchanges.{Accepts, FarApart}
-use Rattle.gauge.specs.Word.{word_of, shown_of}
+use Rattle.gauge.specs.Word.{word_of}
 use Rattle.gauge_laws.specs.Minutes.{is_ten}
 use Rattle.pack.specs.Fits.{Fits}
 use Rattle.pack.specs.Sound.{sound_of}
@@ -20,13 +20,11 @@ use Rattle.pec.specs.Messages.{Right, bits_apart}
 use Rattle.pec_laws.specs.Faults.{Pair}
 use Rattle.times.specs.Times.{run_time_to_empty, average_time_to_empty, average_time_to_full}
 use Rattle.rooms.specs.Rooms.{Bytes}
-use Rattle.sheet.specs.Sheet.{is_sheet}
-use Rattle.sheets.specs.Block.{good_sheets}
-use Rattle.sheets.specs.Words.{is_word, word_or}
+use Rattle.sheet.specs.Block.{good_sheets}
 
 -- ---- rows
 
--- a right read is answered by its command's row: 9 for a block, 1B or 1C with a bad sheet, 10 for 05 in power mode and for a time beyond the range
+-- a right read is answered by its command's row: 9 for a block with a bad sheet, 10 for 05 in power mode and for a time beyond the range
 abbrev pub ReadRow : Type 0
 ReadRow =
     (s : State) (c : Call) (command : ℕ) → command < 256 → sound_of s ≡ true → 34 ≤ c.room → Reads c command
@@ -43,20 +41,6 @@ abbrev pub TenAnswered : Type 0
 TenAnswered =
     (s : State) (c : Call) (command : ℕ) → sound_of s ≡ true → 34 ≤ c.room → Reads c command
     → (answer s c ≡ 10 → is_ten s.pack command ≡ true) × (is_ten s.pack command ≡ true → answer s c ≡ 10)
-
--- ---- words of the sheets
-
--- a right read of 1B or 1C with two good sheets is served, and shows the service sheet's word if listed there, else the factory sheet's, else set-up's
-abbrev pub WordShown : Type 0
-WordShown =
-    (s : State) (c : Call) (command : ℕ) → sound_of s ≡ true → 34 ≤ c.room → Reads c command → is_word command ≡ true → good_sheets c.service c.factory ≡ true
-    → (answer s c ≡ 0) × (reply s c ≡ reply_of c.bytes (word_body (word_or c.service c.factory command (word_of s command))))
-
--- with two old sheets every word and its answer are as they were before there were new ones: the register's own
-abbrev pub OldSheetsWords : Type 0
-OldSheetsWords =
-    (s : State) (service factory : List ℕ) (command : ℕ) → is_sheet service ≡ true → is_sheet factory ≡ true
-    → shown_in s service factory command ≡ shown_of s command
 
 -- ---- wrong readings shut out
 

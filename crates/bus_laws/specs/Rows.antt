@@ -6,11 +6,11 @@ use Rattle.std.specs.Prelude.{ℕ, List, ◌∷◌, ◌++◌, replicate}
 abbrev pub above23 : List ℕ
 above23 = replicate 11 6 ++ 7 ∷ replicate 12 6 ++ replicate 4 7 ++ replicate 192 6
 
--- to a read: 00 to 04, 05, 06, 07 to 10, 11, 12, 13, 14 to 1A, 1B and 1C, 1D to 1F, 20 to 23, the rest; ten gives the answer for a command of times, nine is the one for what the sheets show
+-- to a read: 00 to 04, 05, 06, 07 to 10, 11, 12, 13, 14 to 1C, 1D to 1F, 20 to 23, the rest; ten gives the answer for a command of times, nine is the one for a block
 abbrev pub read_rows : (ℕ → ℕ) → ℕ → List ℕ
 read_rows ten nine =
-    replicate 5 0 ++ ten 0x05 ∷ ten 0x06 ∷ replicate 10 0 ++ ten 0x11 ∷ ten 0x12 ∷ ten 0x13 ∷ replicate 7 0
-    ++ replicate 2 nine ++ replicate 3 6 ++ replicate 4 nine ++ above23
+    replicate 5 0 ++ ten 0x05 ∷ ten 0x06 ∷ replicate 10 0 ++ ten 0x11 ∷ ten 0x12 ∷ ten 0x13 ∷ replicate 9 0
+    ++ replicate 3 6 ++ replicate 4 nine ++ above23
 
 -- to a write: 00 to 04, 05 to 1C, 1D to 1F, 20 to 23, the rest
 abbrev pub write_rows : List ℕ

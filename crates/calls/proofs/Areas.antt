@@ -30,7 +30,7 @@ use Rattle.start.specs.declared.Started.{Started}
 use Rattle.pack.specs.declared.State.{State}
 use Rattle.seconds.proofs.After.{after_sound}
 use Rattle.recent.proofs.Soundness.{recent_facts}
-use Rattle.sheets.proofs.Names.{block-short}
+use Rattle.sheet.proofs.Names.{block-short}
 use Rattle.rooms.proofs.Choice.{chosen}
 use Rattle.calls.specs.Calls.{start_number, start_area, stays, area_after, sample_number, sample_area, sample_room, transact_number, transact_area, transact_room}
 use Rattle.packed.specs.Packed.{packed}

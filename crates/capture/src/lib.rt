@@ -9,7 +9,7 @@ use rooms::wide;
 const LONGEST: usize = 1 + 255 * 39;
 
 // What a capture holds: its number of rows, and the place of the first.
-#[derive(Drop)]
+#[derive(Clone, Copy)]
 pub struct Opened {
     pub answer: u8,
     pub rows: usize,
@@ -17,7 +17,7 @@ pub struct Opened {
 }
 
 // What stands at a row and a place.
-#[derive(Drop)]
+#[derive(Clone, Copy)]
 pub enum Step {
     // The row's mark, the next row and the next place.
     Next(u8, usize, usize),

@@ -11,7 +11,7 @@ use charger_state::Charger;
 use frame::Request;
 
 // What a transaction gives back: its answer, the state left, the number of reply bytes.
-#[derive(Drop)]
+#[derive(Clone, Copy)]
 pub struct Transacted {
     pub answer: u8,
     pub state: Charger,

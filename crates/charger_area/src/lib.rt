@@ -21,7 +21,7 @@ const LATEST: usize = COUNT + 4;
 pub const LENGTH: usize = LATEST + 10;
 
 // What an area holds.
-#[derive(Drop)]
+#[derive(Clone, Copy)]
 pub struct Loaded {
     pub answer: u8,
     pub state: Charger,

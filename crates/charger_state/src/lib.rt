@@ -5,7 +5,7 @@ ghost use Rattle.charger_state.specs.Charger.{not_yet, set_up_of, sound_of, curr
 use pack::{Latest, Sample};
 
 // A request: whether one was taken, its word, and whether it must come again after an alarm.
-#[derive(Drop)]
+#[derive(Clone, Copy)]
 pub struct Asked {
     pub taken: bool,
     pub word: u16,
@@ -13,7 +13,7 @@ pub struct Asked {
 }
 
 // Both requests, INHIBIT_CHARGE as last written, the milliseconds since a request, and what was sampled last.
-#[derive(Drop)]
+#[derive(Clone, Copy)]
 pub struct Charger {
     pub ChargingCurrent: Asked,
     pub ChargingVoltage: Asked,
@@ -23,7 +23,7 @@ pub struct Charger {
 }
 
 // What a sample gives back: its answer and the state left.
-#[derive(Drop)]
+#[derive(Clone, Copy)]
 pub struct Sampled {
     pub answer: u8,
     pub state: Charger,

@@ -9,7 +9,7 @@ ghost use Rattle.rooms.specs.Rooms.{placed};
 
 use pack::{Pack, Sample, State};
 
-#[derive(Drop)]
+#[derive(Clone, Copy)]
 pub struct Sampled {
     pub answer: u8,
     pub state: State,

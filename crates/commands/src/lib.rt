@@ -4,7 +4,7 @@ ghost use Rattle.commands.specs.Answers.{write_answer, code_after};
 ghost use Rattle.commands.specs.Commands.{kind_of};
 
 // A command's row.
-#[derive(Drop)]
+#[derive(Clone, Copy)]
 pub enum Kind {
     ReadWrite,
     ReadOnly,

@@ -4,7 +4,7 @@ ghost use Rattle.cycles.specs.Cycles.{cycles_after, toward_after};
 ghost use Rattle.capacity.specs.Capacity.{milliamp_ms};
 
 // The cycle number, and what is kept toward the next.
-#[derive(Drop)]
+#[derive(Clone, Copy)]
 pub struct Cycles {
     pub count: u16,
     pub toward: u64,

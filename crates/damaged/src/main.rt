@@ -77,34 +77,20 @@ fn write_long_bodies() {
     sheet_written(absent, &room);
 }
 
-// 15 March 2021, the serial 17, a maker's name; no room under 157.
-fn new_sheet_written() {
-    let mut room = [0xEEu8; 157];
-    let served = sheet_writer::write_new_sheet(
-        &mut room, true, 0x526F, true, 0x0011, true, b"Acme", false, b"", false, b"", false, b"",
-    );
-    sheet_written(served, &room);
-    let mut small = [0xEEu8; 156];
-    let refused = sheet_writer::write_new_sheet(
-        &mut small, true, 0x526F, false, 0, false, b"", false, b"", false, b"", false, b"",
-    );
-    sheet_written(refused, &small);
-}
-
 // 20 is in both sheets, 22 in the service sheet, 21 in the factory sheet, 23 and 24 in neither.
 fn block_names() {
     let service = b"\x02\x20\x04\x09\x00\x22\x04\x0d\x00AcmeLION";
     let factory = b"\x02\x20\x05\x09\x00\x21\x02\x0e\x00MakerP7";
-    print_line(sheets::block(service, factory, 0x20));
-    print_line(sheets::block(service, factory, 0x21));
-    print_line(sheets::block(service, factory, 0x22));
-    print_line(sheets::block(service, factory, 0x23));
-    print_line(sheets::block(service, factory, 0x24));
-    print_number(sheets::sheets_answer(service, factory));
-    print_line(sheets::block(service, b"", 0x20));
-    print_number(sheets::sheets_answer(service, b""));
-    print_line(sheets::block(b"\x01", factory, 0x21));
-    print_number(sheets::sheets_answer(b"\x01", factory));
+    print_line(sheet::block(service, factory, 0x20));
+    print_line(sheet::block(service, factory, 0x21));
+    print_line(sheet::block(service, factory, 0x22));
+    print_line(sheet::block(service, factory, 0x23));
+    print_line(sheet::block(service, factory, 0x24));
+    print_number(sheet::block_answer(service, factory));
+    print_line(sheet::block(service, b"", 0x20));
+    print_number(sheet::block_answer(service, b""));
+    print_line(sheet::block(b"\x01", factory, 0x21));
+    print_number(sheet::block_answer(b"\x01", factory));
 }
 
 fn verdict(fault: &[u8], bytes: &[u8]) {
@@ -114,42 +100,6 @@ fn verdict(fault: &[u8], bytes: &[u8]) {
     } else {
         print_line(b": no sheet");
     }
-}
-
-// The reader of both forms, and what the old reader says of the same bytes.
-fn new_verdict(fault: &[u8], bytes: &[u8]) {
-    if sheets::is_sheet_of(true, bytes) {
-        io::write_all(STDOUT_FILENO, b"new sheet, ");
-    } else {
-        io::write_all(STDOUT_FILENO, b"no new sheet, ");
-    }
-    verdict(fault, bytes);
-}
-
-// A date, a serial and a name; then one fault each.
-fn new_sheets() {
-    new_verdict(
-        b"date, serial and name",
-        b"\x83\x1b\x02\x0d\x00\x1c\x02\x0f\x00\x20\x04\x11\x00\x6f\x52\x11\x00Acme",
-    );
-    new_verdict(b"no rows", b"\x80");
-    new_verdict(b"a name alone", b"\x81\x20\x04\x05\x00Acme");
-    new_verdict(b"another mark", b"\x41\x20\x04\x05\x00Acme");
-    new_verdict(b"a date in the old form", b"\x01\x1b\x02\x05\x00\x6f\x52");
-    new_verdict(b"a date of one byte", b"\x81\x1b\x01\x05\x00\x6f");
-    new_verdict(
-        b"a serial of three bytes",
-        b"\x81\x1c\x03\x05\x00\x11\x00\x00",
-    );
-    new_verdict(
-        b"serial before date",
-        b"\x82\x1c\x02\x09\x00\x1b\x02\x0b\x00\x11\x00\x6f\x52",
-    );
-    new_verdict(
-        b"a date after a name",
-        b"\x82\x20\x01\x09\x00\x1b\x02\x0a\x00a\x6f\x52",
-    );
-    new_verdict(b"tag 1D", b"\x81\x1d\x02\x05\x00\x11\x00");
 }
 
 fn sheet_contents() {
@@ -328,8 +278,6 @@ fn main() {
     block_names();
     sheet_contents();
     sheet_bodies();
-    new_sheets();
-    new_sheet_written();
     read_damaged_example();
     read_bounds();
     write_captures();

@@ -6,17 +6,13 @@ use mathlib.Core.Option.{Option, none, some}
 use Prim.Native.Nat.{ℕ, ◌+◌, ◌<◌}
 use native.Mathlib.Omega.{arith}
 use lib.Dec.{eqb}
-use borrow.Author.Tests.{eq-eqb, ne_eqb, eqb-true}
-use Rattle.rooms.specs.Rooms.{Bytes}
-use Rattle.rooms.proofs.Choice.{chosen}
-use Rattle.sheet.specs.Sheet.{Entry, bodies_of, TagKind, among}
+use borrow.Author.Tests.{eq-eqb, ne_eqb, eqb-true, eqb-false}
+use Rattle.sheet.specs.Sheet.{Entry, TagKind, among}
 use Rattle.sheet_forms.specs.Forms.{listable}
 use Rattle.sheet_forms.proofs.Entries.{First, first}
-use Rattle.rooms.proofs.Rooms.{bytes_joined, bytes_parts}
 use Rattle.sheet_edit.specs.Edit.{entry_for, edited}
 use Rattle.sheet_edit.proofs.Entries.{Order, is-less, is_same, is-more, order}
 use Rattle.sheet_edit.proofs.After.{edited-none, edited-less, edited-same, edited-more, from_first}
-use Rattle.edit_laws.specs.Series.{bytes_of}
 
 -- ---- each tag has what it should
 
@@ -68,40 +64,18 @@ among_edited ks low t tag to (e ∷ es) g =
     by_order f next (is-more k) =
         ap (λ (x : List Entry). among t x) (edited-more ks tag to e es f.rest k) ∙ among_entry ks t tag to (e ∷ es) (from_first ks low tag e es g k)
 
--- ---- the first of entries, and the later ones
+-- ---- entries that have the same under every tag are the same
+
+nothing_some : {b : List ℕ} {X : Type 0} → none ≡ some b → X
+nothing_some h = let z : ◌≡◌ {A = ℕ} 0 1 = cc in absurd (omega arith)
 
 own : (e : Entry) (es : List Entry) → among e.tag (e ∷ es) ≡ some e.body
 unfolding among
 own e es = rw (eq-eqb e.tag e.tag refl)
 
-later : (ks : List TagKind) (e : Entry) (es : List Entry) → listable ks (e.tag + 1) es ≡ true → (t : ℕ) → among t es ≡ cond (eqb e.tag t) none (among t (e ∷ es))
+other : (t : ℕ) (e : Entry) (es : List Entry) → (e.tag ≡ t → ⊥) → among t (e ∷ es) ≡ among t es
 unfolding among
-later ks e es g t = by-test (eqb e.tag t) refl
-  where
-    by-test : (b : Bool) → eqb e.tag t ≡ b → among t es ≡ cond b none (cond b (some e.body) (among t es))
-    by-test true q = among_high ks (e.tag + 1) t es g (omega (arith, eqb-true e.tag t q))
-    by-test false q = refl
-
--- ---- bodies of bytes are so under every tag, and the other way round
-
-pub among_bytes : (tag : ℕ) (es : List Entry) → Bytes (bodies_of es) → Bytes (bytes_of (among tag es))
-unfolding among
-among_bytes tag [] b = tt
-among_bytes tag (e ∷ es) b =
-    let p = bytes_parts e.body (bodies_of es) b in
-    chosen (λ (o : Option (List ℕ)). Bytes (bytes_of o)) (eqb e.tag tag) (λ _. p.0) (λ _. among_bytes tag es p.1)
-
-pub bodies_bytes : (ks : List TagKind) (low : ℕ) (es : List Entry) → listable ks low es ≡ true → ((tag : ℕ) → Bytes (bytes_of (among tag es))) → Bytes (bodies_of es)
-bodies_bytes ks low [] g h = tt
-bodies_bytes ks low (e ∷ es) g h =
-    let f = first ks low e es g in
-    bytes_joined e.body (bodies_of es) (rw (own e es) at (h e.tag))
-    (bodies_bytes ks (e.tag + 1) es f.rest (λ t. rw (later ks e es f.rest t) (chosen (λ (o : Option (List ℕ)). Bytes (bytes_of o)) (eqb e.tag t) (λ _. tt) (λ _. h t))))
-
--- ---- entries that have the same under every tag are the same
-
-nothing_some : {b : List ℕ} {X : Type 0} → none ≡ some b → X
-nothing_some h = let z : ◌≡◌ {A = ℕ} 0 1 = cc in absurd (omega arith)
+other t e es never = rw (ne_eqb e.tag t never)
 
 pub same_entries : (ks : List TagKind) (low : ℕ) (es ds : List Entry) → listable ks low es ≡ true → listable ks low ds ≡ true → ((t : ℕ) → among t es ≡ among t ds) → es ≡ ds
 unfolding among
@@ -114,11 +88,12 @@ same_entries ks low (e ∷ es) (d ∷ ds) g k h =
     by_order f f' (λ q. same_entries ks (e.tag + 1) es ds f.rest (rw (← q) at f'.rest)) (order e.tag d.tag)
   where
     rest : First ks low e es → First ks low d ds → e.tag ≡ d.tag → (t : ℕ) → among t es ≡ among t ds
-    rest f f' q t =
-        later ks e es f.rest t
-        ∙ ap (λ (o : Option (List ℕ)). cond (eqb e.tag t) none o) (h t)
-        ∙ ap (λ (k : ℕ). cond (eqb k t) none (among t (d ∷ ds))) q
-        ∙ sym (later ks d ds f'.rest t)
+    rest f f' q t = by-test (eqb e.tag t) refl
+      where
+        by-test : (b : Bool) → eqb e.tag t ≡ b → among t es ≡ among t ds
+        by-test true x =
+            among_high ks (e.tag + 1) t es f.rest (omega (arith, eqb-true e.tag t x)) ∙ sym (among_high ks (d.tag + 1) t ds f'.rest (omega (arith, eqb-true e.tag t x)))
+        by-test false x = sym (other t e es (eqb-false e.tag t x)) ∙ h t ∙ other t d ds (λ y. eqb-false e.tag t x (q ∙ y))
 
     by_order : First ks low e es → First ks low d ds → (e.tag ≡ d.tag → ((t : ℕ) → among t es ≡ among t ds) → es ≡ ds) → Order e.tag d.tag → e ∷ es ≡ d ∷ ds
     by_order f f' next (is-less q) = nothing_some (sym (among_high ks (e.tag + 1) e.tag (d ∷ ds) (from_first ks low e.tag d ds k q) (omega arith)) ∙ sym (h e.tag) ∙ own e es)

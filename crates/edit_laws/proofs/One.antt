@@ -1,28 +1,30 @@
 -- The theorems on one edit. Assumes nothing.
 use mathlib.Core.Path.{◌≡◌, refl, sym, ap, ◌∙◌}
 use mathlib.Core.Logic.{◌↔◌}
-use mathlib.Core.Bool.{Bool, true, false, cond}
-use mathlib.Core.List.{List, [], ◌∷◌, ◌++◌, append_assoc}
+use mathlib.Core.Bool.{Bool, true, false, cond, and-eq-true_iff}
+use mathlib.Core.List.{List, [], ◌++◌, append_assoc}
 use mathlib.Core.Option.{Option, none, some, get_or}
 use Prim.Native.Nat.{ℕ, ◌+◌, ◌-◌, max, ◌≤◌, ◌<◌}
 use native.Mathlib.Omega.{arith}
 use lib.Dec.{eqb, leb}
 use lib.ListN.{length, take, drop, replicate, length-append, length-replicate}
 use lib.Seq.{drop-append_seam, take_at, drop_at}
-use borrow.Author.Tests.{eq-eqb, eqb-true, leb-true, leb-false}
+use borrow.Author.Tests.{eq-eqb, eqb-true, leb-true, leb-false, le-leb}
 use Rattle.rooms.specs.Rooms.{Bytes}
-use Rattle.sheet.specs.Sheet.{Entry, TagKind, form_for, sheet_of, allows, is_new_sheet, is_good, entries_in, among, body_in}
+use Rattle.sheet.specs.Sheet.{Entry, old, sheet_of, is_sheet, entries_in, among, body_in}
+use Rattle.sheet.proofs.Tags.{allows-is, allowed-short}
 use Rattle.sheet_forms.specs.Forms.{listable}
 use Rattle.sheet_forms.proofs.Entries.{among_allowed}
+use Rattle.sheet_forms.proofs.Forms.{old_proper, is-sheet}
 use Rattle.sheet_laws.proofs.Named.{name_of}
-use Rattle.sheet_edit.specs.Edit.{edited, holds_sheet, sheet_after, has_tag, fits, edit_answer, edit_of, room_with, room_after}
-use Rattle.sheet_edit.proofs.Answers.{Passed, passes, Done, done, is-done, now, now-may}
-use Rattle.sheet_edit.proofs.After.{edited_may}
-use Rattle.sheet_edit.proofs.Rooms.{Front, FrontIn, front, sheet_is}
+use Rattle.sheet_edit.specs.Edit.{edited, holds_sheet, sheet_after, is_name, size_of, edit_answer, edit_of, room_with, room_after}
+use Rattle.sheet_edit.proofs.Answers.{Passed, Done, done, is-done, may_stand, now, now-may, now-most}
+use Rattle.sheet_edit.proofs.After.{Allowed, edited_may}
+use Rattle.sheet_edit.proofs.Rooms.{Front, front, sheet_is}
 use Rattle.sheet_edit.proofs.Whole.{removed-fits}
-use Rattle.edit_laws.specs.Laws.{EditLists, EditKeepsForm, EditReads, EditNamed, EditBehind, Nothing, SetNothing, RemoveNothing, EditTwenty, EditRoomEnough, RemoveServed}
+use Rattle.edit_laws.specs.Laws.{EditLists, EditReads, EditNamed, EditBehind, Nothing, SetNothing, RemoveNothing, EditTwenty, EditRoomEnough, RemoveServed}
 use Rattle.edit_laws.proofs.Entries.{among_edited, same_entries}
-use Rattle.edit_laws.proofs.Rooms.{own_room, front_of, with_length, of_form, good, read_again, in-front, form_is, after_most}
+use Rattle.edit_laws.proofs.Rooms.{own_room, front_of, with_length, listed, in-front}
 
 -- ---- a served edit
 
@@ -30,17 +32,14 @@ module _ (room : List ℕ) (stated tag : ℕ) (to : Option (List ℕ)) (bytes : 
   abbrev D : Done room stated tag to
   D = done room stated tag to e
 
-  abbrev is_new : Bool
-  is_new = is_new_sheet (take stated room)
-
-  abbrev F : FrontIn room stated
+  abbrev F : Front room stated
   F = front room stated D.tests.holds bytes
 
   abbrev s : List ℕ
-  s = sheet_of (form_for is_new) (now F tag to)
+  s = sheet_of old (now F tag to)
 
-  may : listable (form_for is_new).kinds 0 (now F tag to) ≡ true
-  may = now-may F tag to D.tests
+  may : listable old.kinds 0 (now F tag to) ≡ true
+  may = now-may F tag to (may_stand tag to D.tests.name D.tests.short)
 
   room-after : room_after room stated tag to ≡ room_with s stated room
   room-after = D.room_is ∙ ap (λ (x : List ℕ). room_with x stated room) (sheet_is F tag to)
@@ -52,39 +51,32 @@ module _ (room : List ℕ) (stated tag : ℕ) (to : Option (List ℕ)) (bytes : 
   front-after = rw (room-after, length-after) (front_of s room stated)
 
   holds_after : holds_sheet (room_after room stated tag to) (edit_of room stated tag to).length ≡ true
-  holds_after = rw (room-after, length-after) (in-front is_new (now F tag to) may room stated)
+  holds_after = rw (room-after, length-after) (in-front (now F tag to) may room stated)
 
   reads-after : (t : ℕ) → body_in (take (edit_of room stated tag to).length (room_after room stated tag to)) t ≡ cond (eqb tag t) to (body_in (take stated room) t)
   reads-after t =
       ap (λ (x : List ℕ). body_in x t) front-after
-      ∙ ap (λ (x : List Entry). among t x) (read_again is_new (now F tag to) may)
-      ∙ among_edited (form_for is_new).kinds 0 t tag to F.entries F.may
+      ∙ ap (λ (x : List Entry). among t x) (listed (now F tag to) may)
+      ∙ among_edited old.kinds 0 t tag to F.entries F.may
       ∙ ap (λ (x : List Entry). cond (eqb tag t) to (among t x)) (sym F.listed)
 
 pub lists : EditLists
 lists room stated tag to bytes e = (
   holds_after room stated tag to bytes e,
   ap entries_in (front-after room stated tag to bytes e)
-      ∙ read_again (is_new_sheet (take stated room)) (now (F room stated tag to bytes e) tag to) (may room stated tag to bytes e)
+      ∙ listed (now (F room stated tag to bytes e) tag to) (may room stated tag to bytes e)
       ∙ ap (λ (x : List Entry). edited tag to x) (sym (F room stated tag to bytes e).listed),
 )
 
 pub reads : EditReads
 reads = reads-after
 
-pub keeps_form : EditKeepsForm
-keeps_form room stated tag to bytes e =
-    let is_new : Bool = is_new_sheet (take stated room) in
-    let L : List Entry = now (F room stated tag to bytes e) tag to in
-    let g = may room stated tag to bytes e in
-    rw (front-after room stated tag to bytes e) (of_form is_new L g, form_is is_new L g)
-
 pub named : EditNamed
 named room stated tag to bytes e factory h =
     let service : List ℕ = take (edit_of room stated tag to).length (room_after room stated tag to) in
-    let ok : is_good service ≡ true = ap is_good (front-after room stated tag to bytes e) ∙ good (is_new_sheet (take stated room)) (now (F room stated tag to bytes e) tag to) (may room stated tag to bytes e) in
+    let good : is_sheet service ≡ true = ap is_sheet (front-after room stated tag to bytes e) ∙ is-sheet old old_proper (now (F room stated tag to bytes e) tag to) (may room stated tag to bytes e) in
     let own : body_in service tag ≡ to = reads-after room stated tag to bytes e tag ∙ rw (eq-eqb tag tag refl) in
-    name_of service factory tag ok h ∙ ap (λ (o : Option (List ℕ)). get_or o (get_or (body_in factory tag) [])) own
+    name_of service factory tag good h ∙ ap (λ (o : Option (List ℕ)). get_or o (get_or (body_in factory tag) [])) own
 
 pub behind : EditBehind
 unfolding room_with
@@ -103,56 +95,50 @@ behind room stated tag to bytes e =
 
 -- ---- what is there, set again
 
-module _ {is_new : Bool} {room : List ℕ} {stated : ℕ} (F : Front is_new room stated) (tag : ℕ) (to : Option (List ℕ)) (there : among tag F.entries ≡ to) where
+module _ {room : List ℕ} {stated : ℕ} (F : Front room stated) (tag : ℕ) (name : is_name tag ≡ true) where
   abbrev L : List Entry
   L = F.entries
 
-  abbrev ks : List TagKind
-  ks = (form_for is_new).kinds
+  allowed-there : (to : Option (List ℕ)) → among tag L ≡ to → Allowed old.kinds tag to
+  allowed-there none h = tt
+  allowed-there (some body) h = among_allowed old.kinds 0 tag body L F.may h
 
-  stands-there : fits ks tag to ≡ true
-  stands-there = by-body to there
-    where
-      by-body : (o : Option (List ℕ)) → among tag L ≡ o → fits ks tag o ≡ true
-      by-body none h = refl
-      by-body (some body) h = among_allowed ks 0 tag body L F.may h
+  short-there : (to : Option (List ℕ)) → Allowed old.kinds tag to → size_of to ≤ 32
+  short-there none a = omega arith
+  short-there (some body) a = allowed-short tag (length body) a
 
-  as_before : edited tag to L ≡ L
-  as_before = same_entries ks 0 (edited tag to L) L (edited_may ks 0 tag to L F.may (omega arith) stands-there) F.may (λ t. among_edited ks 0 t tag to L F.may ∙ by-test t (eqb tag t) refl)
+  as_before : (to : Option (List ℕ)) → among tag L ≡ to → edited tag to L ≡ L
+  as_before to h =
+      same_entries old.kinds 0 (edited tag to L) L (edited_may old.kinds 0 tag to L F.may (omega arith) (allowed-there to h)) F.may
+      (λ t. among_edited old.kinds 0 t tag to L F.may ∙ by-test t (eqb tag t) refl)
     where
       by-test : (t : ℕ) (b : Bool) → eqb tag t ≡ b → cond b to (among t L) ≡ among t L
-      by-test t true q = sym there ∙ ap (λ (k : ℕ). among k L) (eqb-true tag t q)
+      by-test t true q = sym h ∙ ap (λ (k : ℕ). among k L) (eqb-true tag t q)
       by-test t false q = refl
 
-  unchanged : holds_sheet room stated ≡ true → has_tag ks tag ≡ true → Nothing room stated tag to
+  unchanged : holds_sheet room stated ≡ true → (to : Option (List ℕ)) → among tag L ≡ to → Nothing room stated tag to
   unfolding edit_of
-  unchanged ok has =
+  unchanged ok to h =
       let t : List ℕ = sheet_after room stated tag to in
-      let old-one : t ≡ sheet_of (form_for is_new) L = sheet_is F tag to ∙ ap (sheet_of (form_for is_new)) as_before in
+      let old-one : t ≡ sheet_of old L = sheet_is F tag to ∙ ap (sheet_of old) (as_before to h) in
       let size : length t ≡ stated = ap length old-one ∙ sym F.size in
-      let e : edit_answer room stated tag to ≡ 0 = is-done room stated tag to (passes F tag to ok has stands-there) (omega (arith, F.reach)) in
+      let e : edit_answer room stated tag to ≡ 0 = is-done room stated tag to (record { holds = ok; name = name; short = short-there to (allowed-there to h) }) (omega (arith, F.reach)) in
       (rw (e, size), (done room stated tag to e).room_is ∙ ap (λ (x : List ℕ). room_with x stated room) old-one ∙ own_room F)
 
--- a tag that is listed is one of the form's
-allowed_tag : (ks : List TagKind) (tag l : ℕ) → allows ks tag l ≡ true → has_tag ks tag ≡ true
-unfolding allows has_tag
-allowed_tag [] tag l e = e
-allowed_tag (k ∷ ks) tag l e = by-tag (eqb k.tag tag) refl (allowed_tag ks tag l)
-  where
-    by-tag : (b : Bool) → eqb k.tag tag ≡ b → (allows ks tag l ≡ true → has_tag ks tag ≡ true) → has_tag (k ∷ ks) tag ≡ true
-    by-tag true q next = rw q
-    by-tag false q next = rw q (next (rw q at e))
+-- a tag that is listed is a name's
+name_there : (tag : ℕ) (body : List ℕ) (L : List Entry) → listable old.kinds 0 L ≡ true → among tag L ≡ some body → is_name tag ≡ true
+name_there tag body L g h = ((and-eq-true_iff (is_name tag) (leb (length body) 32)).0 (sym (allows-is tag (length body)) ∙ among_allowed old.kinds 0 tag body L g h)).0
 
 pub set_nothing : SetNothing
 set_nothing room stated tag body bytes ok h =
     let F = front room stated ok bytes in
     let there : among tag F.entries ≡ some body = ap (λ (x : List Entry). among tag x) (sym F.listed) ∙ h in
-    unchanged F tag (some body) there ok (allowed_tag _ tag (length body) (stands-there F tag (some body) there))
+    unchanged F tag (name_there tag body F.entries F.may there) ok (some body) there
 
 pub remove_nothing : RemoveNothing
-remove_nothing room stated tag bytes ok has h =
+remove_nothing room stated tag bytes ok name h =
     let F = front room stated ok bytes in
-    unchanged F tag none (ap (λ (x : List Entry). among tag x) (sym F.listed) ∙ h) ok has
+    unchanged F tag name ok none (ap (λ (x : List Entry). among tag x) (sym F.listed) ∙ h)
 
 -- ---- 20
 
@@ -162,12 +148,12 @@ by_length false n m e = (λ q. leb-false n m e, λ h. refl)
 
 pub twenty : EditTwenty
 unfolding edit_answer
-twenty room stated tag to f k h = rw (f, k, h) (by_length (leb (length (sheet_after room stated tag to)) (length room)) (length (sheet_after room stated tag to)) (length room) refl)
+twenty room stated tag to f k h = rw (f, k, le-leb _ _ h) (by_length (leb (length (sheet_after room stated tag to)) (length room)) (length (sheet_after room stated tag to)) (length room) refl)
 
 pub room_enough : EditRoomEnough
-room_enough room stated tag to bytes l ok has h =
-    let P : Passed room stated tag to = record { holds = ok; has-tag = has; stands = h } in
-    is-done room stated tag to P (omega (arith, after_most (front room stated ok bytes) tag to P))
+room_enough room stated tag to bytes l ok name h =
+    let P : Passed room stated tag to = record { holds = ok; name = name; short = h } in
+    is-done room stated tag to P (omega (arith, now-most (front room stated ok bytes) tag to P))
 
 pub remove_served : RemoveServed
-remove_served room stated tag bytes ok has = is-done room stated tag none (record { holds = ok; has-tag = has; stands = refl }) (removed-fits (front room stated ok bytes) tag)
+remove_served room stated tag bytes ok name = is-done room stated tag none (record { holds = ok; name = name; short = omega arith }) (removed-fits (front room stated ok bytes) tag)

@@ -1,12 +1,12 @@
--- What is promised of edits, of sheets of either form. Definitions: assumes nothing.
+-- What is promised of edits. Definitions: assumes nothing.
 use Rattle.std.specs.Prelude.{◌≡◌, ◌↔◌, true, cond, List, [], ◌∷◌, ℕ, ◌-◌, max, ◌≤◌, ◌<◌, eqb, length, take, drop, replicate}
 use Rattle.std.proofs.Math.Option.{Option, none, some, get_or}
 use Rattle.rooms.specs.Rooms.{Bytes, wrote}
-use Rattle.sheet.specs.Sheet.{form_for, sheet_of, is_sheet_of, is_new_sheet, is_good, entries_in, body_in}
-use Rattle.sheets.specs.Block.{block_of}
-use Rattle.sheet_writer.specs.Writing.{least_room, sheet_wrote, sheet_room}
-use Rattle.sheet_edit.specs.Edit.{edited, holds_sheet, form_in, sheet_after, has_tag, fits, edit_answer, edit_of, room_with, room_after}
-use Rattle.edit_laws.specs.Series.{Edit, Held, AllBytes, AllFit, AllServed, after, longest, sheet_in, is_new_in, end_entries}
+use Rattle.sheet.specs.Sheet.{old, sheet_of, is_sheet, entries_in, body_in}
+use Rattle.sheet.specs.Block.{block_of}
+use Rattle.sheet_writer.specs.Writing.{sheet_wrote, sheet_room}
+use Rattle.sheet_edit.specs.Edit.{edited, holds_sheet, sheet_after, is_name, size_of, edit_answer, edit_of, room_with, room_after}
+use Rattle.edit_laws.specs.Series.{Edit, Held, AllFit, AllServed, after, longest, choice_of, sheet_in, end_bodies}
 
 -- ---- one edit
 
@@ -20,11 +20,6 @@ abbrev pub EditLists : Type 0
 EditLists = Served (λ room stated tag to left new.
     (holds_sheet left new ≡ true) × (entries_in (take new left) ≡ edited tag to (entries_in (take stated room))))
 
--- it is a sheet of the very form that was found
-abbrev pub EditKeepsForm : Type 0
-EditKeepsForm = Served (λ room stated tag to left new.
-    (is_sheet_of (form_in room stated) (take new left) ≡ true) × (is_new_sheet (take new left) ≡ is_new_sheet (take stated room)))
-
 -- the edit's tag reads as the body that was set, or as none; every other tag reads as before
 abbrev pub EditReads : Type 0
 EditReads = Served (λ room stated tag to left new.
@@ -33,7 +28,7 @@ EditReads = Served (λ room stated tag to left new.
 -- the pack's block name of the tag is then the body that was set; where it was removed, the factory sheet's
 abbrev pub EditNamed : Type 0
 EditNamed = Served (λ room stated tag to left new.
-    (factory : List ℕ) → is_good factory ≡ true → block_of (take new left) factory tag ≡ get_or to (get_or (body_in factory tag) []))
+    (factory : List ℕ) → is_sheet factory ≡ true → block_of (take new left) factory tag ≡ get_or to (get_or (body_in factory tag) []))
 
 -- the room keeps its length; within the old sheet zeros follow the new one; beyond both all is as it was
 abbrev pub EditBehind : Type 0
@@ -50,45 +45,42 @@ abbrev pub SetNothing : Type 0
 SetNothing = (room : List ℕ) (stated tag : ℕ) (body : List ℕ) → Bytes room → holds_sheet room stated ≡ true → body_in (take stated room) tag ≡ some body
     → Nothing room stated tag (some body)
 
--- nor does removing what isn't there, under a tag of the form
+-- nor does removing a name that isn't there
 abbrev pub RemoveNothing : Type 0
-RemoveNothing = (room : List ℕ) (stated tag : ℕ) → Bytes room → holds_sheet room stated ≡ true → has_tag (form_in room stated).kinds tag ≡ true → body_in (take stated room) tag ≡ none
+RemoveNothing = (room : List ℕ) (stated tag : ℕ) → Bytes room → holds_sheet room stated ≡ true → is_name tag ≡ true → body_in (take stated room) tag ≡ none
     → Nothing room stated tag none
 
 -- 20 comes exactly when the new sheet is longer than the room
 abbrev pub EditTwenty : Type 0
-EditTwenty = (room : List ℕ) (stated tag : ℕ) (to : Option (List ℕ))
-    → holds_sheet room stated ≡ true → has_tag (form_in room stated).kinds tag ≡ true → fits (form_in room stated).kinds tag to ≡ true
+EditTwenty = (room : List ℕ) (stated tag : ℕ) (to : Option (List ℕ)) → holds_sheet room stated ≡ true → is_name tag ≡ true → size_of to ≤ 32
     → (edit_answer room stated tag to ≡ 20) ↔ (length room < length (sheet_after room stated tag to))
 
--- so never in a room of 145 bytes, of a new sheet 157
+-- so never in a room of 145 bytes
 abbrev pub EditRoomEnough : Type 0
-EditRoomEnough = (room : List ℕ) (stated tag : ℕ) (to : Option (List ℕ)) → Bytes room → least_room (is_new_sheet (take stated room)) ≤ length room
-    → holds_sheet room stated ≡ true → has_tag (form_in room stated).kinds tag ≡ true → fits (form_in room stated).kinds tag to ≡ true
+EditRoomEnough = (room : List ℕ) (stated tag : ℕ) (to : Option (List ℕ)) → Bytes room → 145 ≤ length room → holds_sheet room stated ≡ true → is_name tag ≡ true → size_of to ≤ 32
     → edit_answer room stated tag to ≡ 0
 
 -- nor to a removal
 abbrev pub RemoveServed : Type 0
-RemoveServed = (room : List ℕ) (stated tag : ℕ) → Bytes room → holds_sheet room stated ≡ true → has_tag (form_in room stated).kinds tag ≡ true → edit_answer room stated tag none ≡ 0
+RemoveServed = (room : List ℕ) (stated tag : ℕ) → Bytes room → holds_sheet room stated ≡ true → is_name tag ≡ true → edit_answer room stated tag none ≡ 0
 
 -- ---- several
 
--- any series of edits that bring bytes leaves the sheet of the final bodies, in the form that was there; zeros behind it, to where the longest sheet on the way ended; then what stood there
+-- any series leaves the sheet of the final bodies; zeros behind it, to where the longest sheet on the way ended; then what stood there
 abbrev pub SeriesLeaves : Type 0
-SeriesLeaves = (es : List Edit) (h : Held) → Bytes h.room → AllBytes es → holds_sheet h.room h.stated ≡ true
-    → ((after es h).stated ≡ length (sheet_of (form_for (is_new_in h)) (end_entries es h)))
-    × ((after es h).room ≡ room_with (sheet_of (form_for (is_new_in h)) (end_entries es h)) (longest es h) h.room)
+SeriesLeaves = (es : List Edit) (h : Held) → Bytes h.room → holds_sheet h.room h.stated ≡ true
+    → ((after es h).stated ≡ length (sheet_of old (choice_of (end_bodies es h))))
+    × ((after es h).room ≡ room_with (sheet_of old (choice_of (end_bodies es h))) (longest es h) h.room)
 
--- byte for byte the sheet that the writer of that form gives for the final bodies, in any room that it takes
+-- byte for byte the sheet that the writer gives for the final bodies, in any room of 145 bytes or more
 abbrev pub SeriesAfresh : Type 0
-SeriesAfresh = (es : List Edit) (h : Held) (fresh : List ℕ) → Bytes h.room → AllBytes es → holds_sheet h.room h.stated ≡ true → least_room (is_new_in h) ≤ length fresh
-    → (sheet_wrote (is_new_in h) (end_entries es h) fresh ≡ wrote 0 (after es h).stated)
-    × (take (after es h).stated (sheet_room (is_new_in h) (end_entries es h) fresh) ≡ sheet_in (after es h))
+SeriesAfresh = (es : List Edit) (h : Held) (fresh : List ℕ) → Bytes h.room → holds_sheet h.room h.stated ≡ true → 145 ≤ length fresh
+    → (sheet_wrote (choice_of (end_bodies es h)) fresh ≡ wrote 0 (after es h).stated)
+    × (take (after es h).stated (sheet_room (choice_of (end_bodies es h)) fresh) ≡ sheet_in (after es h))
 
--- in a room of 145 bytes, of a new sheet 157, a series of edits whose tags and bodies pass the tests is served throughout
+-- in a room of 145 bytes a series of edits whose tags and bodies pass the tests is served throughout
 abbrev pub SeriesServed : Type 0
-SeriesServed = (es : List Edit) (h : Held) → Bytes h.room → holds_sheet h.room h.stated ≡ true → least_room (is_new_in h) ≤ length h.room → AllFit (is_new_in h) es
-    → AllServed es h
+SeriesServed = (es : List Edit) (h : Held) → Bytes h.room → holds_sheet h.room h.stated ≡ true → 145 ≤ length h.room → AllFit es → AllServed es h
 
 -- two edits on different tags give the same sheet in either order, where both orders are served
 abbrev pub EditsCommute : Type 0

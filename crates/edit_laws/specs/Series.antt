@@ -1,11 +1,9 @@
 -- A series of edits: the rooms that it leads through, and what each tag has in the end. Definitions: assumes nothing.
-use Rattle.std.specs.Prelude.{◌≡◌, Bool, true, cond, ◌&&◌, List, [], ◌∷◌, ℕ, max, eqb, take}
+use Rattle.std.specs.Prelude.{◌≡◌, Bool, true, false, cond, ◌&&◌, List, [], ◌∷◌, ℕ, max, eqb, leb, take}
 use Rattle.std.proofs.Math.Option.{Option, none, some}
-use Rattle.rooms.specs.Rooms.{Bytes}
-use Rattle.sheet.specs.Sheet.{Entry, form_for, is_new_sheet, body_in}
-use Rattle.sheets.specs.Words.{listed, word_in}
-use Rattle.sheet_laws.specs.Written.{Choice, entries_of}
-use Rattle.sheet_edit.specs.Edit.{has_tag, fits, edit_answer, edit_of, room_after}
+use Rattle.sheet.specs.Sheet.{Entry, body_in}
+use Rattle.sheet_writer.specs.Writing.{choice}
+use Rattle.sheet_edit.specs.Edit.{is_name, size_of, edit_answer, edit_of, room_after}
 
 -- an edit: a tag gets a body (set) or none (remove)
 pub record Edit : Type 0 where
@@ -21,9 +19,9 @@ pub record Held : Type 0 where
 abbrev pub is_served : Edit → Held → Bool
 is_served e h = eqb (edit_answer h.room h.stated e.tag e.to) 0
 
--- an edit's tag and body pass the tests of a form
-abbrev pub is_fit : Bool → Edit → Bool
-is_fit is_new e = has_tag (form_for is_new).kinds e.tag && fits (form_for is_new).kinds e.tag e.to
+-- an edit's tag and body pass the tests
+abbrev pub is_fit : Edit → Bool
+is_fit e = is_name e.tag && leb (size_of e.to) 32
 
 -- after an edit the length is the one that it answers; after a refused one it is what it was
 abbrev pub next : Edit → Held → Held
@@ -42,10 +40,10 @@ abbrev pub AllServed : List Edit → Held → Type 0
 AllServed [] h = Unit {0}
 AllServed (e ∷ es) h = (is_served e h ≡ true) × AllServed es (next e h)
 
--- each of its edits passes the tests of a form
-abbrev pub AllFit : Bool → List Edit → Type 0
-AllFit is_new [] = Unit {0}
-AllFit is_new (e ∷ es) = (is_fit is_new e ≡ true) × AllFit is_new es
+-- each of its edits passes the tests
+abbrev pub AllFit : List Edit → Type 0
+AllFit [] = Unit {0}
+AllFit (e ∷ es) = (is_fit e ≡ true) × AllFit es
 
 -- the longest sheet on the way, the first and the last with it
 abbrev pub longest : List Edit → Held → ℕ
@@ -67,32 +65,21 @@ finally (e ∷ es) h had = finally es (next e h) (cond (is_served e h) (with_edi
 
 -- ---- the same bodies for the writer
 
--- a body's bytes; of none no bytes, which the writer ignores
+-- there is a body
+abbrev pub is_there : Option (List ℕ) → Bool
+is_there none = false
+is_there (some body) = true
+
+-- its bytes; of none no bytes, which the writer ignores
 abbrev pub bytes_of : Option (List ℕ) → List ℕ
 bytes_of none = []
 bytes_of (some body) = body
 
--- the writer's choice: a word or none for each of the tags 1B and 1C, a body or none for each of 20 to 23
-abbrev pub choice_of : Bodies → Choice
-choice_of has = record {
-  has1_b = listed (has 0x1B);
-  date = word_in (bytes_of (has 0x1B));
-  has1_c = listed (has 0x1C);
-  serial = word_in (bytes_of (has 0x1C));
-  has20 = listed (has 0x20);
-  body20 = bytes_of (has 0x20);
-  has21 = listed (has 0x21);
-  body21 = bytes_of (has 0x21);
-  has22 = listed (has 0x22);
-  body22 = bytes_of (has 0x22);
-  has23 = listed (has 0x23);
-  body23 = bytes_of (has 0x23);
-}
-
--- what the edits of a series bring is bytes
-abbrev pub AllBytes : List Edit → Type 0
-AllBytes [] = Unit {0}
-AllBytes (e ∷ es) = Bytes (bytes_of e.to) × AllBytes es
+-- the writer's choice: a body or none for each of the tags 20, 21, 22 and 23
+abbrev pub choice_of : Bodies → List Entry
+choice_of has =
+    choice (is_there (has 0x20)) (bytes_of (has 0x20)) (is_there (has 0x21)) (bytes_of (has 0x21))
+    (is_there (has 0x22)) (bytes_of (has 0x22)) (is_there (has 0x23)) (bytes_of (has 0x23))
 
 -- ---- a held sheet
 
@@ -100,14 +87,6 @@ AllBytes (e ∷ es) = Bytes (bytes_of e.to) × AllBytes es
 abbrev pub sheet_in : Held → List ℕ
 sheet_in h = take h.stated h.room
 
--- that sheet is a new one
-abbrev pub is_new_in : Held → Bool
-is_new_in h = is_new_sheet (sheet_in h)
-
 -- what each tag has in the end, from what the sheet lists
 abbrev pub end_bodies : List Edit → Held → Bodies
 end_bodies es h = finally es h (body_in (sheet_in h))
-
--- the entries that the writer of its form makes of them
-abbrev pub end_entries : List Edit → Held → List Entry
-end_entries es h = entries_of (is_new_in h) (choice_of (end_bodies es h))

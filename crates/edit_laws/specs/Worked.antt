@@ -35,33 +35,3 @@ pub record EditsByHand : Type 0 where
   pub other_length : edit_of sixteen 11 0x20 none ≡ record { answer = 9; length = 0 }
   pub past_the_room : edit_of sixteen 17 0x20 none ≡ record { answer = 9; length = 0 }
   pub other_tag : edit_of sixteen 12 0x1F none ≡ record { answer = 18; length = 0 }
-
--- sixteen with a new sheet in the first seven: "AB" under 20
-abbrev pub marked : List ℕ
-marked = 0x81 ∷ 0x20 ∷ 0x02 ∷ 0x05 ∷ 0x00 ∷ 0x41 ∷ 0x42 ∷ 0x99 ∷ 0x99 ∷ 0x99 ∷ 0x99 ∷ 0x99 ∷ 0x99 ∷ 0x99 ∷ 0x99 ∷ 0x99 ∷ []
-
--- the same with the date 4321 before it, in the first thirteen
-abbrev pub dated : List ℕ
-dated = 0x82 ∷ 0x1B ∷ 0x02 ∷ 0x09 ∷ 0x00 ∷ 0x20 ∷ 0x02 ∷ 0x0B ∷ 0x00 ∷ 0x21 ∷ 0x43 ∷ 0x41 ∷ 0x42 ∷ 0x99 ∷ 0x99 ∷ 0x99 ∷ []
-
-abbrev pub date : List ℕ
-date = 0x21 ∷ 0x43 ∷ []
-
-pub record NewEditsByHand : Type 0 where
-  -- the date added: its row and its bytes, low first, stand before the name's, which move up by six; the mark stays
-  pub added : room_after marked 7 0x1B (some date) ≡ dated
-  pub added_to : edit_of marked 7 0x1B (some date) ≡ record { answer = 0; length = 13 }
-  -- and removed: the sheet that was, six zeros
-  pub removed : room_after dated 13 0x1B none ≡ 0x81 ∷ 0x20 ∷ 0x02 ∷ 0x05 ∷ 0x00 ∷ 0x41 ∷ 0x42 ∷ 0x00 ∷ 0x00 ∷ 0x00 ∷ 0x00 ∷ 0x00 ∷ 0x00 ∷ 0x99 ∷ 0x99 ∷ 0x99 ∷ []
-  pub removed_to : edit_of dated 13 0x1B none ≡ record { answer = 0; length = 7 }
-  -- the name removed: the empty new sheet
-  pub emptied : room_after marked 7 0x20 none ≡ 0x80 ∷ 0x00 ∷ 0x00 ∷ 0x00 ∷ 0x00 ∷ 0x00 ∷ 0x00 ∷ 0x99 ∷ 0x99 ∷ 0x99 ∷ 0x99 ∷ 0x99 ∷ 0x99 ∷ 0x99 ∷ 0x99 ∷ 0x99 ∷ []
-  pub emptied_to : edit_of marked 7 0x20 none ≡ record { answer = 0; length = 1 }
-  -- a serial of three bytes, and one of none
-  pub long_word : edit_of marked 7 0x1C (some letters) ≡ record { answer = 19; length = 0 }
-  pub short_word : edit_of marked 7 0x1C (some []) ≡ record { answer = 19; length = 0 }
-  -- in an old sheet no date is set, nor removed
-  pub old_date : edit_of sixteen 12 0x1B (some date) ≡ record { answer = 18; length = 0 }
-  pub old_removal : edit_of sixteen 12 0x1B none ≡ record { answer = 18; length = 0 }
-  -- nor is another tag in a new one
-  pub other_tag : edit_of marked 7 0x1D (some date) ≡ record { answer = 18; length = 0 }

@@ -7,7 +7,7 @@ ghost use Rattle.frame.specs.Broadcasts.{sent_as, message_size};
 ghost use Rattle.rooms.specs.Rooms.{placed};
 
 // What the driver's bytes and mark ask for; or the answer 3, 4 or 5.
-#[derive(Drop)]
+#[derive(Clone, Copy)]
 pub enum Request {
     Refused(u8),
     Read(u8),
@@ -109,7 +109,7 @@ pub fn put_body(room: &mut [u8], request: &[u8], body: &[u8]) -> usize
 }
 
 // A broadcast message: a word under a command, for an address.
-#[derive(Drop)]
+#[derive(Clone, Copy)]
 pub struct Message {
     pub address: u8,
     pub command: u8,

@@ -14,7 +14,6 @@ use Rattle.pec.specs.Messages.{ends_in_pec, Right, exchange_check}
 use Rattle.pec.specs.declared.Checked.{Checked}
 use Rattle.pec.proofs.Bounds.{pec_lt}
 use Rattle.pec_laws.specs.Faults.{Rights}
-use Rattle.rooms.proofs.Rooms.{bytes_joined}
 use Rattle.rooms.specs.Rooms.{Bytes}
 use Rattle.pec_laws.proofs.Theorems.{misheard, four_bits, even_bits, no_burst, two_bits_to_37}
 use Rattle.frame.specs.Transactions.{read_bytes, with_pec, word_body, block_body, reply_of}
@@ -75,6 +74,10 @@ unfolding reply_of
 word_back request w = omega arith
 
 -- ---- requests and replies are bytes
+
+pub bytes_joined : (xs ys : List ℕ) → Bytes xs → Bytes ys → Bytes (xs ++ ys)
+bytes_joined [] ys h k = k
+bytes_joined (x ∷ xs) ys h k = (h.0, bytes_joined xs ys h.1 k)
 
 pub word_bytes : (w : ℕ) → w < 65536 → Bytes (word_body w)
 word_bytes w h = (omega arith, (omega arith, tt))

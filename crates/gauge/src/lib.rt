@@ -8,7 +8,7 @@ use minutes::Given;
 use pack::{Pack, State};
 
 // What a word read gives: its answer, 0 or 10, and its word.
-#[derive(Drop)]
+#[derive(Clone, Copy)]
 pub struct Shown {
     pub answer: u8,
     pub word: u16,

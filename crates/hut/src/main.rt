@@ -7,7 +7,7 @@ use pack::{Sample, State};
 use start::Setup;
 
 // What the hut measures while a phase lasts.
-#[derive(Drop)]
+#[derive(Clone, Copy)]
 struct Measured {
     voltage: u16,
     current: i16,

@@ -8,7 +8,7 @@ use names::stroke;
 use rooms::wide;
 
 // An answer number, and the words of a key.
-#[derive(Drop)]
+#[derive(Clone, Copy)]
 pub struct Read {
     pub answer: u8,
     pub date: u16,
@@ -16,7 +16,7 @@ pub struct Read {
 }
 
 // An answer number, the words of a key, and where its names stand.
-#[derive(Drop)]
+#[derive(Clone, Copy)]
 pub struct Found {
     pub answer: u8,
     pub maker_end: usize,

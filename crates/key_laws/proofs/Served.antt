@@ -9,7 +9,6 @@ use lib.Seq.{take-append_seam}
 use lib.Dec.{ltb}
 use mathlib.Mathlib.Data.Bool.Basic.{or-eq-false-eq-eq-false-and-eq-false}
 use borrow.Author.Tests.{le-ltb, ltb-false}
-use Rattle.rooms.proofs.Rooms.{bytes_parts}
 use Rattle.rooms.specs.Rooms.{Bytes}
 use Rattle.names.specs.Names.{marked, escape_byte, escape}
 use Rattle.key.specs.Key.{key_of_parts, Parts, PartsFit, IsKey}
@@ -56,12 +55,16 @@ is_given k w = go (refused p.maker p.device w.room) refl
 
 -- ---- bytes
 
+pub bytes_append : (s t : List ℕ) → Bytes (s ++ t) → Bytes s × Bytes t
+bytes_append [] t h = (tt, h)
+bytes_append (b ∷ s) t h = let r = bytes_append s t h.1 in ((h.0, r.0), r.1)
+
 pub bytes_plain : (name : List ℕ) → Bytes (escape name) → Bytes name
 bytes_plain [] h = tt
 bytes_plain (b ∷ s) h =
-    let r = bytes_parts (escape_byte b) (escape s) h in
+    let r = bytes_append (escape_byte b) (escape s) h in
     (last (marked b) refl, bytes_plain s r.1)
   where
     last : (t : Bool) → marked b ≡ t → b < 256
-    last true e = (rw e at (bytes_parts (escape_byte b) (escape s) h).0).1.0
-    last false e = (rw e at (bytes_parts (escape_byte b) (escape s) h).0).0
+    last true e = (rw e at (bytes_append (escape_byte b) (escape s) h).0).1.0
+    last false e = (rw e at (bytes_append (escape_byte b) (escape s) h).0).0

@@ -8,7 +8,6 @@ use native.Mathlib.Omega.{arith}
 use lib.Dec.{leb}
 use lib.ListN.{length}
 use borrow.Author.Tests.{le-leb, leb-true}
-use Rattle.rooms.proofs.Rooms.{bytes_parts}
 use Rattle.rooms.specs.Rooms.{Bytes}
 use Rattle.names.specs.Names.{escape, unescaped, of_key, name_in}
 use Rattle.key.specs.Key.{hex_word, key_of, key_of_parts, Parts, PartsFit, IsKey, is_words, read_key, read_of, maker_of, device_of, device_start}
@@ -18,7 +17,7 @@ use Rattle.names.proofs.Reading.{read_ended}
 use Rattle.names.proofs.Unescaping.{unescaped_is}
 use Rattle.key.proofs.Keys.{key_given}
 use Rattle.key_laws.specs.Laws.{UnescapeEscape, ServedIsKey, NotKey, IsKeyWritten, NamesAreBytes, SameKey, NoKeyBeginsAnother, ReadWritten, NamesBack, NameExactly, NoneExactly, dashed, DashMerges, KeysDiffer, KeyAtMost139, all_escaped, SomeKeyOf139}
-use Rattle.key_laws.proofs.Served.{gives, is_given, bytes_plain}
+use Rattle.key_laws.proofs.Served.{gives, is_given, bytes_append, bytes_plain}
 use Rattle.key_laws.proofs.Complete.{words_of, words_no, read_names, read_back}
 
 -- ---- 1: unescaping an escaped name gives the name
@@ -53,8 +52,8 @@ pub names_are_bytes : NamesAreBytes
 unfolding key_of
 names_are_bytes k i h =
     let p : Parts = i.parts in
-    let a = bytes_parts (escape p.maker) _ (subst Bytes i.given h) in
-    let b = bytes_parts (escape p.device) _ a.1.1 in
+    let a = bytes_append (escape p.maker) _ (subst Bytes i.given h) in
+    let b = bytes_append (escape p.device) _ a.1.1 in
     (bytes_plain p.maker a.0, bytes_plain p.device b.0)
 
 -- ---- 3: two packs have equal keys exactly when all four parts agree

@@ -1,16 +1,12 @@
 -- The laws of writing a key: names and words laid one after the other. Assumes nothing.
 use mathlib.Core.Path.{◌≡◌, sym, ap, ◌∙◌}
-use mathlib.Core.Bool.{true, ◌||◌}
-use mathlib.Mathlib.Data.Bool.Basic.{or-eq-false-eq-eq-false-and-eq-false}
+use mathlib.Core.Bool.{true}
 use mathlib.Core.List.{List, [], ◌∷◌, ◌++◌, append_assoc}
 use Prim.Native.Nat.{ℕ, suc, ◌+◌, ◌*◌, ◌/◌, ◌%◌, ◌≤◌, ◌<◌}
 use native.Mathlib.Omega.{arith}
-use lib.Dec.{ltb}
 use lib.ListN.{length, take, get_or, set, length-append}
 use lib.Seq.{sets, length-take-le}
-use borrow.Author.Tests.{lt-ltb, le-ltb, ltb-false}
-use Rattle.rooms.proofs.Choice.{chosen}
-use Rattle.rooms.specs.declared.Wrote.{Wrote}
+use borrow.Author.Tests.{lt-ltb, le-ltb}
 use Rattle.rooms.specs.Rooms.{wrote}
 use Rattle.rooms.proofs.Rooms.{then, front}
 use Rattle.names.specs.Names.{escape_byte, escape}
@@ -100,14 +96,3 @@ not_device m d l hm h = simp (le-ltb _ _ hm, lt-ltb _ _ h)
 pub not_room : (m d l : List ℕ) → length m ≤ 32 → length d ≤ 32 → length l < 139 → refused m d l ≡ true
 unfolding refused
 not_room m d l hm hd h = simp (le-ltb _ _ hm, le-ltb _ _ hd, lt-ltb _ _ h)
-
--- a written key's length
-pub key_most : (maker device : List ℕ) (date serial : ℕ) (room : List ℕ) → (key_wrote maker device date serial room).length ≤ 139
-unfolding key_wrote refused
-key_most maker device date serial room =
-    chosen (λ (w : Wrote). w.length ≤ 139) (refused maker device room)
-    (λ e. omega arith)
-    (λ e.
-    let r = (or-eq-false-eq-eq-false-and-eq-false (ltb 32 (length maker) || ltb 32 (length device)) (ltb (length room) 139)).0 e in
-    let n = (or-eq-false-eq-eq-false-and-eq-false (ltb 32 (length maker)) (ltb 32 (length device))).0 r.0 in
-    omega (arith, key_length maker device date serial, escape_length maker, escape_length device, ltb-false 32 (length maker) n.0, ltb-false 32 (length device) n.1))

@@ -7,7 +7,7 @@ use pack::{RUN_MOST, Run};
 
 // What a run sees of a sample: whether it leaves the pack full, whether its current is above 0, whether it has
 // TERMINATE_DISCHARGE set, and the charge that it draws.
-#[derive(Drop)]
+#[derive(Clone, Copy)]
 pub struct Seen {
     pub filled: bool,
     pub rises: bool,

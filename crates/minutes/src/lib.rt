@@ -3,7 +3,7 @@ ghost use Rattle.std.specs.Prelude.{◌≡◌};
 ghost use Rattle.minutes.specs.Minutes.{time_of, time_word, was_cut_off, given_word, given_answer};
 
 // How long a capacity lasts at a rate: minutes, 0 to 65,534; longer than that; for ever, as nothing moves that way.
-#[derive(Drop)]
+#[derive(Clone, Copy)]
 pub enum Time {
     Minutes(u16),
     Beyond,
@@ -11,7 +11,7 @@ pub enum Time {
 }
 
 // What a register gives: a word, a time, or no time where the command has none.
-#[derive(Drop)]
+#[derive(Clone, Copy)]
 pub enum Given {
     Word(u16),
     Until(Time),

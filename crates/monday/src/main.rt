@@ -10,14 +10,14 @@ use shelf::Row;
 use shelf_row::{Figures, Lowest};
 
 // A number with a digit more.
-#[derive(Drop)]
+#[derive(Clone, Copy)]
 enum Number {
     Is(u16),
     Beyond,
 }
 
 // What the next byte of a line stands after: nothing, a gap, a digit, a carriage return, a `#`, or what can't stand there.
-#[derive(Drop)]
+#[derive(Clone, Copy)]
 enum After {
     Nothing,
     Gap,
@@ -28,7 +28,7 @@ enum After {
 }
 
 // A line as far as it is read: how many numbers it has begun, and the last four of these.
-#[derive(Drop)]
+#[derive(Clone, Copy)]
 struct Line {
     row: Row,
     begun: u8,
@@ -36,7 +36,7 @@ struct Line {
 }
 
 // A line that is read: a pack's row, one to pass over, or neither.
-#[derive(Drop)]
+#[derive(Clone, Copy)]
 enum Meaning {
     Pack(Row),
     Passed,
@@ -44,7 +44,7 @@ enum Meaning {
 }
 
 // A table as far as it is read: its first 65 rows, since one over 64 tells; and the number of the first line that isn't right, else 0.
-#[derive(Drop)]
+#[derive(Clone, Copy)]
 struct Table {
     rows: [Row; 65],
     count: usize,

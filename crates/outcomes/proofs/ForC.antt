@@ -2,7 +2,7 @@
 -- Assumes nothing.
 use mathlib.Core.Path.{refl}
 use Rattle.outcomes.specs.Outcome.{Settled}
-use Rattle.outcomes.specs.ForC.{snatchblock_pec_terms, snatchblock_exchange_check_terms, snatchblock_bit_comparison_terms, snatchblock_write_key_terms, snatchblock_read_key_terms, snatchblock_unescape_terms, snatchblock_write_sheet_terms, snatchblock_write_new_sheet_terms, snatchblock_sheet_to_new_terms, snatchblock_sheet_to_old_terms, snatchblock_is_new_sheet_terms, snatchblock_pack_key_terms, snatchblock_set_body_terms, snatchblock_remove_body_terms, snatchblock_is_sheet_terms, snatchblock_block_terms, snatchblock_open_capture_terms, snatchblock_step_capture_terms, snatchblock_shelf_report_terms, snatchblock_set_up_terms, snatchblock_sound_terms, snatchblock_sample_terms, snatchblock_transact_terms, snatchblock_charger_set_up_terms, snatchblock_charger_sound_terms, snatchblock_charger_sample_terms, snatchblock_charger_transact_terms, snatchblock_charger_current_terms, snatchblock_thirteen_set_up_terms, snatchblock_thirteen_sound_terms, snatchblock_thirteen_sample_terms, snatchblock_thirteen_transact_terms}
+use Rattle.outcomes.specs.ForC.{snatchblock_pec_terms, snatchblock_exchange_check_terms, snatchblock_bit_comparison_terms, snatchblock_write_key_terms, snatchblock_read_key_terms, snatchblock_unescape_terms, snatchblock_write_sheet_terms, snatchblock_set_body_terms, snatchblock_remove_body_terms, snatchblock_is_sheet_terms, snatchblock_block_terms, snatchblock_open_capture_terms, snatchblock_step_capture_terms, snatchblock_shelf_report_terms, snatchblock_set_up_terms, snatchblock_sound_terms, snatchblock_sample_terms, snatchblock_transact_terms, snatchblock_charger_set_up_terms, snatchblock_charger_sound_terms, snatchblock_charger_sample_terms, snatchblock_charger_transact_terms, snatchblock_charger_current_terms, snatchblock_thirteen_set_up_terms, snatchblock_thirteen_sound_terms, snatchblock_thirteen_sample_terms, snatchblock_thirteen_transact_terms}
 use Rattle.outcomes.proofs.One.{settled}
 use Rattle.snatchblock.specs.contracts.snatchblock_pec as snatchblock_pec_owed
 use Rattle.snatchblock.specs.contracts.snatchblock_exchange_check as snatchblock_exchange_check_owed
@@ -11,13 +11,9 @@ use Rattle.snatchblock.specs.contracts.snatchblock_write_key as snatchblock_writ
 use Rattle.snatchblock.specs.contracts.snatchblock_read_key as snatchblock_read_key_owed
 use Rattle.snatchblock.specs.contracts.snatchblock_unescape as snatchblock_unescape_owed
 use Rattle.snatchblock.specs.contracts.snatchblock_write_sheet as snatchblock_write_sheet_owed
-use Rattle.snatchblock.specs.contracts.snatchblock_write_new_sheet as snatchblock_write_new_sheet_owed
-use Rattle.snatchblock.specs.contracts.snatchblock_sheet_to_new as snatchblock_sheet_to_new_owed
-use Rattle.snatchblock.specs.contracts.snatchblock_sheet_to_old as snatchblock_sheet_to_old_owed
 use Rattle.snatchblock.specs.contracts.snatchblock_set_body as snatchblock_set_body_owed
 use Rattle.snatchblock.specs.contracts.snatchblock_remove_body as snatchblock_remove_body_owed
 use Rattle.snatchblock.specs.contracts.snatchblock_is_sheet as snatchblock_is_sheet_owed
-use Rattle.snatchblock.specs.contracts.snatchblock_is_new_sheet as snatchblock_is_new_sheet_owed
 use Rattle.snatchblock.specs.contracts.snatchblock_block as snatchblock_block_owed
 use Rattle.snatchblock.specs.contracts.snatchblock_open_capture as snatchblock_open_capture_owed
 use Rattle.snatchblock.specs.contracts.snatchblock_step_capture as snatchblock_step_capture_owed
@@ -26,7 +22,6 @@ use Rattle.snatchblock.specs.contracts.snatchblock_set_up as snatchblock_set_up_
 use Rattle.snatchblock.specs.contracts.snatchblock_sound as snatchblock_sound_owed
 use Rattle.snatchblock.specs.contracts.snatchblock_sample as snatchblock_sample_owed
 use Rattle.snatchblock.specs.contracts.snatchblock_transact as snatchblock_transact_owed
-use Rattle.snatchblock.specs.contracts.snatchblock_pack_key as snatchblock_pack_key_owed
 use Rattle.snatchblock.specs.contracts.snatchblock_charger_set_up as snatchblock_charger_set_up_owed
 use Rattle.snatchblock.specs.contracts.snatchblock_charger_sound as snatchblock_charger_sound_owed
 use Rattle.snatchblock.specs.contracts.snatchblock_charger_sample as snatchblock_charger_sample_owed
@@ -58,15 +53,6 @@ snatchblock_unescape_settled = settled snatchblock_unescape_terms (λ M 𝓤 �
 pub snatchblock_write_sheet_settled : Settled (λ M. snatchblock_write_sheet_owed.clauses {M = M}) snatchblock_write_sheet_terms
 snatchblock_write_sheet_settled = settled snatchblock_write_sheet_terms (λ M 𝓤 𝓛 memory run. refl)
 
-pub snatchblock_write_new_sheet_settled : Settled (λ M. snatchblock_write_new_sheet_owed.clauses {M = M}) snatchblock_write_new_sheet_terms
-snatchblock_write_new_sheet_settled = settled snatchblock_write_new_sheet_terms (λ M 𝓤 𝓛 memory run. refl)
-
-pub snatchblock_sheet_to_new_settled : Settled (λ M. snatchblock_sheet_to_new_owed.clauses {M = M}) snatchblock_sheet_to_new_terms
-snatchblock_sheet_to_new_settled = settled snatchblock_sheet_to_new_terms (λ M 𝓤 𝓛 memory run. refl)
-
-pub snatchblock_sheet_to_old_settled : Settled (λ M. snatchblock_sheet_to_old_owed.clauses {M = M}) snatchblock_sheet_to_old_terms
-snatchblock_sheet_to_old_settled = settled snatchblock_sheet_to_old_terms (λ M 𝓤 𝓛 memory run. refl)
-
 pub snatchblock_set_body_settled : Settled (λ M. snatchblock_set_body_owed.clauses {M = M}) snatchblock_set_body_terms
 snatchblock_set_body_settled = settled snatchblock_set_body_terms (λ M 𝓤 𝓛 memory run. refl)
 
@@ -75,9 +61,6 @@ snatchblock_remove_body_settled = settled snatchblock_remove_body_terms (λ M �
 
 pub snatchblock_is_sheet_settled : Settled (λ M. snatchblock_is_sheet_owed.clauses {M = M}) snatchblock_is_sheet_terms
 snatchblock_is_sheet_settled = settled snatchblock_is_sheet_terms (λ M 𝓤 𝓛 memory run. refl)
-
-pub snatchblock_is_new_sheet_settled : Settled (λ M. snatchblock_is_new_sheet_owed.clauses {M = M}) snatchblock_is_new_sheet_terms
-snatchblock_is_new_sheet_settled = settled snatchblock_is_new_sheet_terms (λ M 𝓤 𝓛 memory run. refl)
 
 pub snatchblock_block_settled : Settled (λ M. snatchblock_block_owed.clauses {M = M}) snatchblock_block_terms
 snatchblock_block_settled = settled snatchblock_block_terms (λ M 𝓤 𝓛 memory run. refl)
@@ -102,9 +85,6 @@ snatchblock_sample_settled = settled snatchblock_sample_terms (λ M 𝓤 𝓛 me
 
 pub snatchblock_transact_settled : Settled (λ M. snatchblock_transact_owed.clauses {M = M}) snatchblock_transact_terms
 snatchblock_transact_settled = settled snatchblock_transact_terms (λ M 𝓤 𝓛 memory run. refl)
-
-pub snatchblock_pack_key_settled : Settled (λ M. snatchblock_pack_key_owed.clauses {M = M}) snatchblock_pack_key_terms
-snatchblock_pack_key_settled = settled snatchblock_pack_key_terms (λ M 𝓤 𝓛 memory run. refl)
 
 pub snatchblock_charger_set_up_settled : Settled (λ M. snatchblock_charger_set_up_owed.clauses {M = M}) snatchblock_charger_set_up_terms
 snatchblock_charger_set_up_settled = settled snatchblock_charger_set_up_terms (λ M 𝓤 𝓛 memory run. refl)

@@ -2,7 +2,7 @@
 -- Assumes nothing.
 use mathlib.Core.Path.{refl}
 use Rattle.outcomes.specs.Outcome.{Settled}
-use Rattle.outcomes.specs.Keys.{is_marked_terms, stroke_terms, unescape_terms, find_terms, read_key_terms, maker_part_terms, device_part_terms, write_key_terms, write_pack_key_terms, pack_key_terms}
+use Rattle.outcomes.specs.Keys.{is_marked_terms, stroke_terms, unescape_terms, find_terms, read_key_terms, maker_part_terms, device_part_terms, write_key_terms}
 use Rattle.outcomes.proofs.One.{settled}
 use Rattle.names.specs.contracts.is_marked as is_marked_owed
 use Rattle.names.specs.contracts.stroke as stroke_owed
@@ -12,8 +12,6 @@ use Rattle.key.specs.contracts.read_key as read_key_owed
 use Rattle.key.specs.contracts.maker_part as maker_part_owed
 use Rattle.key.specs.contracts.device_part as device_part_owed
 use Rattle.key_writer.specs.contracts.write_key as write_key_owed
-use Rattle.pack_key.specs.contracts.write_pack_key as write_pack_key_owed
-use Rattle.key_calls.specs.contracts.pack_key as pack_key_owed
 
 pub is_marked_settled : Settled (λ M. is_marked_owed.clauses {M = M}) is_marked_terms
 is_marked_settled = settled is_marked_terms (λ M 𝓤 𝓛 memory run. refl)
@@ -38,9 +36,3 @@ device_part_settled = settled device_part_terms (λ M 𝓤 𝓛 memory run. refl
 
 pub write_key_settled : Settled (λ M. write_key_owed.clauses {M = M}) write_key_terms
 write_key_settled = settled write_key_terms (λ M 𝓤 𝓛 memory run. refl)
-
-pub write_pack_key_settled : Settled (λ M. write_pack_key_owed.clauses {M = M}) write_pack_key_terms
-write_pack_key_settled = settled write_pack_key_terms (λ M 𝓤 𝓛 memory run. refl)
-
-pub pack_key_settled : Settled (λ M. pack_key_owed.clauses {M = M}) pack_key_terms
-pack_key_settled = settled pack_key_terms (λ M 𝓤 𝓛 memory run. refl)

@@ -1,6 +1,6 @@
 -- The entries for C: what comes out of each public function, and what must.
 -- Assumes nothing.
-use Rattle.std.specs.Prelude.{ℕ, Bool, true, false, List, [], ◌∷◌}
+use Rattle.std.specs.Prelude.{ℕ, Bool, List, [], ◌∷◌}
 use Rattle.calls.specs.Calls.{sample_area, sample_number, sample_room, sound_in, start_area, start_number, transact_area, transact_number, transact_room}
 use Rattle.capture.specs.Walk.{opened_of, step_at}
 use Rattle.charger_calls.specs.Calls as chargers
@@ -12,11 +12,9 @@ use Rattle.start.specs.SetUp.{set_up_of}
 use Rattle.packed.specs.Packed.{check_number, comparison_number, edited_number, located_number, opened_number, read_number, step_number, wrote_number}
 use Rattle.pec.specs.Messages.{bit_comparison, exchange_check}
 use Rattle.pec.specs.Pec.{pec_of}
-use Rattle.sheets.specs.Block.{located_of}
-use Rattle.sheet.specs.Sheet.{is_sheet, is_new_sheet}
+use Rattle.sheet.specs.Block.{located_of}
+use Rattle.sheet.specs.Sheet.{is_sheet}
 use Rattle.sheet_edit.specs.Edit.{edit_of, room_after}
-use Rattle.key_calls.specs.Calls as key_calls
-use Rattle.sheet_moves.specs.Moves.{move_wrote, move_room}
 use Rattle.sheet_writer.specs.Writing as sheets
 use Rattle.shelf_table.specs.Table.{table_room, table_wrote}
 use Rattle.snatchblock.specs.Given.{sample_with, setup_with, thirteen_setup_with}
@@ -30,11 +28,6 @@ use Rattle.snatchblock.specs.contracts.snatchblock_write_key as snatchblock_writ
 use Rattle.snatchblock.specs.contracts.snatchblock_read_key as snatchblock_read_key_owed
 use Rattle.snatchblock.specs.contracts.snatchblock_unescape as snatchblock_unescape_owed
 use Rattle.snatchblock.specs.contracts.snatchblock_write_sheet as snatchblock_write_sheet_owed
-use Rattle.snatchblock.specs.contracts.snatchblock_write_new_sheet as snatchblock_write_new_sheet_owed
-use Rattle.snatchblock.specs.contracts.snatchblock_sheet_to_new as snatchblock_sheet_to_new_owed
-use Rattle.snatchblock.specs.contracts.snatchblock_sheet_to_old as snatchblock_sheet_to_old_owed
-use Rattle.snatchblock.specs.contracts.snatchblock_is_new_sheet as snatchblock_is_new_sheet_owed
-use Rattle.snatchblock.specs.contracts.snatchblock_pack_key as snatchblock_pack_key_owed
 use Rattle.snatchblock.specs.contracts.snatchblock_set_body as snatchblock_set_body_owed
 use Rattle.snatchblock.specs.contracts.snatchblock_remove_body as snatchblock_remove_body_owed
 use Rattle.snatchblock.specs.contracts.snatchblock_is_sheet as snatchblock_is_sheet_owed
@@ -103,28 +96,7 @@ abbrev pub snatchblock_write_sheet_terms : Terms snatchblock_write_sheet_owed.en
 snatchblock_write_sheet_terms = terms_of
     (ℕ ∷ List ℕ ∷ [])
     (λ κs r (room, (_, (_, (_, (_, (_, (_, (_, (_, _))))))))). (r, (room.now, tt)))
-    (λ κs (room, (has20, (body20, (has21, (body21, (has22, (body22, (has23, (body23, _))))))))). (wrote_number (sheets.sheet_wrote false (sheets.choice has20 body20.now has21 body21.now has22 body22.now has23 body23.now) room.now), (sheets.sheet_room false (sheets.choice has20 body20.now has21 body21.now has22 body22.now has23 body23.now) room.now, tt)))
-
--- `snatchblock_write_new_sheet`
-abbrev pub snatchblock_write_new_sheet_terms : Terms snatchblock_write_new_sheet_owed.ended
-snatchblock_write_new_sheet_terms = terms_of
-    (ℕ ∷ List ℕ ∷ [])
-    (λ κs r (room, (_, (_, (_, (_, (_, (_, (_, (_, (_, (_, (_, (_, _))))))))))))). (r, (room.now, tt)))
-    (λ κs (room, (has1_b, (date, (has1_c, (serial, (has20, (body20, (has21, (body21, (has22, (body22, (has23, (body23, _))))))))))))). (wrote_number (sheets.sheet_wrote true (sheets.new_choice has1_b date has1_c serial has20 body20.now has21 body21.now has22 body22.now has23 body23.now) room.now), (sheets.sheet_room true (sheets.new_choice has1_b date has1_c serial has20 body20.now has21 body21.now has22 body22.now has23 body23.now) room.now, tt)))
-
--- `snatchblock_sheet_to_new`
-abbrev pub snatchblock_sheet_to_new_terms : Terms snatchblock_sheet_to_new_owed.ended
-snatchblock_sheet_to_new_terms = terms_of
-    (ℕ ∷ List ℕ ∷ [])
-    (λ κs r (_, (room, _)). (r, (room.now, tt)))
-    (λ κs (bytes, (room, _)). (wrote_number (move_wrote true bytes.now room.now), (move_room true bytes.now room.now, tt)))
-
--- `snatchblock_sheet_to_old`
-abbrev pub snatchblock_sheet_to_old_terms : Terms snatchblock_sheet_to_old_owed.ended
-snatchblock_sheet_to_old_terms = terms_of
-    (ℕ ∷ List ℕ ∷ [])
-    (λ κs r (_, (room, _)). (r, (room.now, tt)))
-    (λ κs (bytes, (room, _)). (wrote_number (move_wrote false bytes.now room.now), (move_room false bytes.now room.now, tt)))
+    (λ κs (room, (has20, (body20, (has21, (body21, (has22, (body22, (has23, (body23, _))))))))). (wrote_number (sheets.sheet_wrote (sheets.choice has20 body20.now has21 body21.now has22 body22.now has23 body23.now) room.now), (sheets.sheet_room (sheets.choice has20 body20.now has21 body21.now has22 body22.now has23 body23.now) room.now, tt)))
 
 -- `snatchblock_set_body`
 abbrev pub snatchblock_set_body_terms : Terms snatchblock_set_body_owed.ended
@@ -146,13 +118,6 @@ snatchblock_is_sheet_terms = terms_of
     (Bool ∷ [])
     (λ κs r _. (r, tt))
     (λ κs (bytes, _). (is_sheet bytes.now, tt))
-
--- `snatchblock_is_new_sheet`
-abbrev pub snatchblock_is_new_sheet_terms : Terms snatchblock_is_new_sheet_owed.ended
-snatchblock_is_new_sheet_terms = terms_of
-    (Bool ∷ [])
-    (λ κs r _. (r, tt))
-    (λ κs (bytes, _). (is_new_sheet bytes.now, tt))
 
 -- `snatchblock_block`
 abbrev pub snatchblock_block_terms : Terms snatchblock_block_owed.ended
@@ -209,13 +174,6 @@ snatchblock_transact_terms = terms_of
     (ℕ ∷ List ℕ ∷ List ℕ ∷ [])
     (λ κs r (area, (_, (_, (_, (_, (room, _)))))). (r, (area.now, (room.now, tt))))
     (λ κs (area, (service, (factory, (read, (bytes, (room, _)))))). (transact_number area.now service.now factory.now read bytes.now room.now, (transact_area area.now service.now factory.now read bytes.now room.now, (transact_room area.now service.now factory.now read bytes.now room.now, tt))))
-
--- `snatchblock_pack_key`
-abbrev pub snatchblock_pack_key_terms : Terms snatchblock_pack_key_owed.ended
-snatchblock_pack_key_terms = terms_of
-    (ℕ ∷ List ℕ ∷ [])
-    (λ κs r (_, (_, (_, (room, _)))). (r, (room.now, tt)))
-    (λ κs (area, (service, (factory, (room, _)))). (key_calls.key_call_number area.now service.now factory.now room.now, (key_calls.key_call_room area.now service.now factory.now room.now, tt)))
 
 -- `snatchblock_charger_set_up`
 abbrev pub snatchblock_charger_set_up_terms : Terms snatchblock_charger_set_up_owed.ended

@@ -8,8 +8,6 @@ use Rattle.key_writer.specs.Writing.{key_room, key_wrote}
 use Rattle.names.specs.Names.{marked, name_in, plain_room, plain_wrote, read_plain}
 use Rattle.names.specs.Steps.{stroke_of}
 use Rattle.outcomes.specs.Outcome.{Terms, terms_of}
-use Rattle.key_calls.specs.Calls as calls
-use Rattle.pack_key.specs.PackKey.{pack_key_wrote, pack_key_room}
 use Rattle.rooms.specs.Rooms.{further}
 use Rattle.rooms.specs.declared.Wrote.{Wrote}
 use Rattle.names.specs.contracts.is_marked as is_marked_owed
@@ -20,8 +18,6 @@ use Rattle.key.specs.contracts.read_key as read_key_owed
 use Rattle.key.specs.contracts.maker_part as maker_part_owed
 use Rattle.key.specs.contracts.device_part as device_part_owed
 use Rattle.key_writer.specs.contracts.write_key as write_key_owed
-use Rattle.pack_key.specs.contracts.write_pack_key as write_pack_key_owed
-use Rattle.key_calls.specs.contracts.pack_key as pack_key_owed
 
 -- `is_marked`
 abbrev pub is_marked_terms : Terms is_marked_owed.ended
@@ -78,17 +74,3 @@ write_key_terms = terms_of
     (Wrote ∷ List ℕ ∷ [])
     (λ κs r (_, (_, (_, (_, (room, _))))). (r, (room.now, tt)))
     (λ κs (maker, (device, (date, (serial, (room, _))))). (key_wrote maker.now device.now date serial room.now, (key_room maker.now device.now date serial room.now, tt)))
-
--- `write_pack_key`
-abbrev pub write_pack_key_terms : Terms write_pack_key_owed.ended
-write_pack_key_terms = terms_of
-    (Wrote ∷ List ℕ ∷ [])
-    (λ κs r (_, (_, (_, (room, _)))). (r, (room.now, tt)))
-    (λ κs (s, (service, (factory, (room, _)))). (pack_key_wrote s service.now factory.now room.now, (pack_key_room s service.now factory.now room.now, tt)))
-
--- `pack_key`
-abbrev pub pack_key_terms : Terms pack_key_owed.ended
-pack_key_terms = terms_of
-    (ℕ ∷ List ℕ ∷ [])
-    (λ κs r (_, (_, (_, (room, _)))). (r, (room.now, tt)))
-    (λ κs (area, (service, (factory, (room, _)))). (calls.key_call_number area.now service.now factory.now room.now, (calls.key_call_room area.now service.now factory.now room.now, tt)))

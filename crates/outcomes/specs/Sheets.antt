@@ -1,27 +1,20 @@
 -- Pack sheets: what comes out of each public function, and what must.
 -- Assumes nothing.
-use Rattle.std.specs.Prelude.{ℕ, Bool, true, false, List, [], ◌∷◌}
+use Rattle.std.specs.Prelude.{ℕ, Bool, List, [], ◌∷◌}
 use Rattle.outcomes.specs.Outcome.{Terms, terms_of}
 use Rattle.rooms.specs.declared.Wrote.{Wrote}
-use Rattle.sheets.specs.Block.{good_sheets, sheets_answer, block_of, located_of, part_of, place_of}
-use Rattle.sheet.specs.Sheet.{form_for, is_sheet_of, is_sheet, is_good}
-use Rattle.sheets.specs.declared.Located.{Located}
+use Rattle.sheet.specs.Block.{block_answer, block_of, located_of, part_of, place_of}
+use Rattle.sheet.specs.Sheet.{is_sheet}
+use Rattle.sheet.specs.declared.Located.{Located}
 use Rattle.sheet_edit.specs.Edit.{edit_of, room_after}
 use Rattle.sheet_edit.specs.declared.Edited.{Edited}
-use Rattle.sheet_moves.specs.Moves.{move_wrote, move_room}
-use Rattle.sheet_writer.specs.Writing.{choice, new_choice, sheet_room, sheet_wrote}
+use Rattle.sheet_writer.specs.Writing.{choice, sheet_room, sheet_wrote}
 use Rattle.std.proofs.Math.Option.{none, some}
 use Rattle.sheet.specs.contracts.is_sheet as is_sheet_owed
-use Rattle.sheets.specs.contracts.is_sheet_of as is_sheet_of_owed
-use Rattle.sheets.specs.contracts.is_good as is_good_owed
-use Rattle.sheets.specs.contracts.good_sheets as good_sheets_owed
-use Rattle.sheets.specs.contracts.locate as locate_owed
-use Rattle.sheets.specs.contracts.sheets_answer as sheets_answer_owed
-use Rattle.sheets.specs.contracts.block as block_Owed
+use Rattle.sheet.specs.contracts.locate as locate_owed
+use Rattle.sheet.specs.contracts.block_answer as block_answer_owed
+use Rattle.sheet.specs.contracts.block as block_Owed
 use Rattle.sheet_writer.specs.contracts.write_sheet as write_sheet_owed
-use Rattle.sheet_writer.specs.contracts.write_new_sheet as write_new_sheet_owed
-use Rattle.sheet_moves.specs.contracts.to_new as to_new_owed
-use Rattle.sheet_moves.specs.contracts.to_old as to_old_owed
 use Rattle.sheet_edit.specs.contracts.set as set_owed
 use Rattle.sheet_edit.specs.contracts.remove as remove_owed
 
@@ -32,27 +25,6 @@ is_sheet_terms = terms_of
     (λ κs r _. (r, tt))
     (λ κs (bytes, _). (is_sheet bytes.now, tt))
 
--- `is_sheet_of`
-abbrev pub is_sheet_of_terms : Terms is_sheet_of_owed.ended
-is_sheet_of_terms = terms_of
-    (Bool ∷ [])
-    (λ κs r _. (r, tt))
-    (λ κs (new, (bytes, _)). (is_sheet_of (form_for new) bytes.now, tt))
-
--- `is_good`
-abbrev pub is_good_terms : Terms is_good_owed.ended
-is_good_terms = terms_of
-    (Bool ∷ [])
-    (λ κs r _. (r, tt))
-    (λ κs (bytes, _). (is_good bytes.now, tt))
-
--- `good_sheets`
-abbrev pub good_sheets_terms : Terms good_sheets_owed.ended
-good_sheets_terms = terms_of
-    (Bool ∷ [])
-    (λ κs r _. (r, tt))
-    (λ κs (service, (factory, _)). (good_sheets service.now factory.now, tt))
-
 -- `locate`
 abbrev pub locate_terms : Terms locate_owed.ended
 locate_terms = terms_of
@@ -60,12 +32,12 @@ locate_terms = terms_of
     (λ κs r _. (r, tt))
     (λ κs (service, (factory, (tag, _))). (located_of service.now factory.now tag, tt))
 
--- `sheets_answer`
-abbrev pub sheets_answer_terms : Terms sheets_answer_owed.ended
-sheets_answer_terms = terms_of
+-- `block_answer`
+abbrev pub block_answer_terms : Terms block_answer_owed.ended
+block_answer_terms = terms_of
     (ℕ ∷ [])
     (λ κs r _. (r, tt))
-    (λ κs (service, (factory, _)). (sheets_answer service.now factory.now, tt))
+    (λ κs (service, (factory, _)). (block_answer service.now factory.now, tt))
 
 -- `block`
 abbrev pub block_terms : Terms block_Owed.ended
@@ -79,28 +51,7 @@ abbrev pub write_sheet_terms : Terms write_sheet_owed.ended
 write_sheet_terms = terms_of
     (Wrote ∷ List ℕ ∷ [])
     (λ κs r (room, (_, (_, (_, (_, (_, (_, (_, (_, _))))))))). (r, (room.now, tt)))
-    (λ κs (room, (has20, (body20, (has21, (body21, (has22, (body22, (has23, (body23, _))))))))). (sheet_wrote false (choice has20 body20.now has21 body21.now has22 body22.now has23 body23.now) room.now, (sheet_room false (choice has20 body20.now has21 body21.now has22 body22.now has23 body23.now) room.now, tt)))
-
--- `write_new_sheet`
-abbrev pub write_new_sheet_terms : Terms write_new_sheet_owed.ended
-write_new_sheet_terms = terms_of
-    (Wrote ∷ List ℕ ∷ [])
-    (λ κs r (room, (_, (_, (_, (_, (_, (_, (_, (_, (_, (_, (_, (_, _))))))))))))). (r, (room.now, tt)))
-    (λ κs (room, (has1_b, (date, (has1_c, (serial, (has20, (body20, (has21, (body21, (has22, (body22, (has23, (body23, _))))))))))))). (sheet_wrote true (new_choice has1_b date has1_c serial has20 body20.now has21 body21.now has22 body22.now has23 body23.now) room.now, (sheet_room true (new_choice has1_b date has1_c serial has20 body20.now has21 body21.now has22 body22.now has23 body23.now) room.now, tt)))
-
--- `to_new`
-abbrev pub to_new_terms : Terms to_new_owed.ended
-to_new_terms = terms_of
-    (Wrote ∷ List ℕ ∷ [])
-    (λ κs r (_, (room, _)). (r, (room.now, tt)))
-    (λ κs (bytes, (room, _)). (move_wrote true bytes.now room.now, (move_room true bytes.now room.now, tt)))
-
--- `to_old`
-abbrev pub to_old_terms : Terms to_old_owed.ended
-to_old_terms = terms_of
-    (Wrote ∷ List ℕ ∷ [])
-    (λ κs r (_, (room, _)). (r, (room.now, tt)))
-    (λ κs (bytes, (room, _)). (move_wrote false bytes.now room.now, (move_room false bytes.now room.now, tt)))
+    (λ κs (room, (has20, (body20, (has21, (body21, (has22, (body22, (has23, (body23, _))))))))). (sheet_wrote (choice has20 body20.now has21 body21.now has22 body22.now has23 body23.now) room.now, (sheet_room (choice has20 body20.now has21 body21.now has22 body22.now has23 body23.now) room.now, tt)))
 
 -- `set`
 abbrev pub set_terms : Terms set_owed.ended

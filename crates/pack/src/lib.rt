@@ -7,7 +7,7 @@ ghost use Rattle.pack.specs.Discharge.{discharge_ends};
 use recent::Recent;
 
 // What set-up fixes; plain: broadcasts go without PEC.
-#[derive(Drop)]
+#[derive(Clone, Copy)]
 pub struct Settings {
     pub DesignCapacity: u16,
     pub DesignVoltage: u16,
@@ -22,7 +22,7 @@ pub struct Settings {
 }
 
 // What the host wrote.
-#[derive(Drop)]
+#[derive(Clone, Copy)]
 pub struct Host {
     pub ManufacturerAccess: u16,
     pub RemainingCapacityAlarm: u16,
@@ -34,7 +34,7 @@ pub struct Host {
 }
 
 // What was sampled last; the current as a word.
-#[derive(Drop)]
+#[derive(Clone, Copy)]
 pub struct Latest {
     pub voltage: u16,
     pub current: u16,
@@ -46,14 +46,14 @@ pub struct Latest {
 pub const RUN_MOST: u64 = 235926000000;
 
 // A discharge from full: whether one is open, and the charge drawn in it.
-#[derive(Drop)]
+#[derive(Clone, Copy)]
 pub struct Run {
     pub opened: bool,
     pub drawn: u64,
 }
 
 // Charge, and what is drawn toward the next cycle, in mA·ms; full capacity in mAh; FullyDischarged is bit 4 of BatteryStatus.
-#[derive(Drop)]
+#[derive(Clone, Copy)]
 pub struct Tank {
     pub charge: u64,
     pub full: u16,
@@ -64,7 +64,7 @@ pub struct Tank {
 }
 
 // In milliseconds.
-#[derive(Drop)]
+#[derive(Clone, Copy)]
 pub struct Timers {
     pub hold: u32,
     pub alarm: u32,
@@ -72,7 +72,7 @@ pub struct Timers {
 }
 
 // All but the error code.
-#[derive(Drop)]
+#[derive(Clone, Copy)]
 pub struct Pack {
     pub settings: Settings,
     pub host: Host,
@@ -83,14 +83,14 @@ pub struct Pack {
 }
 
 // The error code stands apart: reads and refusals change nothing but it.
-#[derive(Drop)]
+#[derive(Clone, Copy)]
 pub struct State {
     pub error: u8,
     pub pack: Pack,
 }
 
 // What a sample brings.
-#[derive(Drop)]
+#[derive(Clone, Copy)]
 pub struct Sample {
     pub voltage: u16,
     pub current: i16,

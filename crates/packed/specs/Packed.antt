@@ -11,7 +11,7 @@ use Rattle.key.specs.declared.Read.{Read}
 use Rattle.pec.specs.declared.Checked.{Checked}
 use Rattle.pec.specs.declared.Compared.{Compared}
 use Rattle.rooms.specs.declared.Wrote.{Wrote}
-use Rattle.sheets.specs.declared.Located.{Located}
+use Rattle.sheet.specs.declared.Located.{Located}
 use Rattle.sheet_edit.specs.declared.Edited.{Edited}
 
 -- an answer, and a number above it (RULES 12.3)

@@ -7,8 +7,8 @@ use capture::{Opened, Step};
 use key::Read;
 use pec::{Checked, Compared};
 use rooms::Wrote;
+use sheet::Located;
 use sheet_edit::Edited;
-use sheets::Located;
 
 fn one_if(b: bool) -> usize
     ensures { (result ≡ one_if b) × (result < 2) }

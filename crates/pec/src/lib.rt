@@ -59,7 +59,7 @@ pub fn pec(s: &[u8]) -> u8
 }
 
 // Answer 15 or 0, and whether the message is right.
-#[derive(Drop)]
+#[derive(Clone, Copy)]
 pub struct Checked {
     pub answer: u8,
     pub right: bool,
@@ -91,7 +91,7 @@ pub fn exchange_check(s: &[u8]) -> Checked
 }
 
 // Answer 15 or 0, and in how many bits two messages differ.
-#[derive(Drop)]
+#[derive(Clone, Copy)]
 pub struct Compared {
     pub answer: u8,
     pub bits: u32,

@@ -6,7 +6,7 @@ ghost use Rattle.reader.specs.Reading.{start_of, step_of, body_of, body_start, a
 
 use capture::Step;
 
-#[derive(Drop)]
+#[derive(Clone, Copy)]
 pub struct Reader<'a> {
     pub bytes: &'a [u8],
     pub row: usize,

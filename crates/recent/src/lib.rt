@@ -6,7 +6,7 @@ ghost use Rattle.std.proofs.Common.{to_z, of_z};
 ghost use Rattle.recent.specs.Recent.{zero_recent, total_sound, totals_sound, recent_sound, sum_of, average_of};
 
 // The totals of complete seconds as 32-bit words: the newest first, as many as count says; the begun second's milliseconds and total.
-#[derive(Drop)]
+#[derive(Clone, Copy)]
 pub struct Recent {
     pub totals: [u32; 60],
     pub count: usize,
@@ -65,7 +65,7 @@ pub fn sound(r: Recent) -> bool
 }
 
 // A signed sum as what came in and what went out.
-#[derive(Drop)]
+#[derive(Clone, Copy)]
 struct Net {
     ins: u32,
     outs: u32,

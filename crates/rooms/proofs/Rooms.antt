@@ -27,15 +27,6 @@ first_bytes zero xs b = tt
 first_bytes (suc n) [] b = tt
 first_bytes (suc n) (x ∷ xs) b = (b.0, first_bytes n xs b.1)
 
--- two lists of them in one, and apart
-pub bytes_joined : (xs ys : List ℕ) → Bytes xs → Bytes ys → Bytes (xs ++ ys)
-bytes_joined [] ys h k = k
-bytes_joined (x ∷ xs) ys h k = (h.0, bytes_joined xs ys h.1 k)
-
-pub bytes_parts : (xs ys : List ℕ) → Bytes (xs ++ ys) → Bytes xs × Bytes ys
-bytes_parts [] ys h = (tt, h)
-bytes_parts (x ∷ xs) ys h = let r = bytes_parts xs ys h.1 in ((h.0, r.0), r.1)
-
 -- bytes stored one after another are stored in a row
 pub sets_append : (l : List ℕ) (i : ℕ) (vs ws : List ℕ) → sets (sets l i vs) (i + length vs) ws ≡ sets l i (vs ++ ws)
 sets_append l i [] ws = rw add-zero

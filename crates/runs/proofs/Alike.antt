@@ -28,8 +28,6 @@ use Rattle.pack.proofs.Soundness.{code_of_sound}
 use Rattle.pack.specs.declared.Pack.{Pack}
 use Rattle.pack.specs.declared.Sample.{Sample}
 use Rattle.pack.specs.declared.State.{State}
-use Rattle.sheets.specs.Block.{good_sheets, sheets_answer}
-use Rattle.sheets.specs.Words.{is_word, word_or}
 use Rattle.runs.proofs.Histories.{step_sound, idle_keeps}
 use Rattle.runs.specs.Events.{Event, sample, call, step, is_idle, IdleEvent, sent}
 use Rattle.runs.specs.Promises.{PackStep}
@@ -65,8 +63,8 @@ module _ (s t : State) (h : SameBut s t) where
 
   row-answer : (c : Call) (command : ℕ) (k : Kind) → read_answer (pack_side s c.service c.factory) command k ≡ read_answer (pack_side t c.service c.factory) command k
   row-answer c command Block = refl
-  row-answer c command ReadOnly = ap (cond (is_word command) (sheets_answer c.service c.factory)) (same_answer s t command h.pack)
-  row-answer c command ReadWrite = ap (cond (is_word command) (sheets_answer c.service c.factory)) (same_answer s t command h.pack)
+  row-answer c command ReadOnly = same_answer s t command h.pack
+  row-answer c command ReadWrite = same_answer s t command h.pack
   row-answer c command WriteOnly = refl
   row-answer c command Optional = refl
   row-answer c command Reserved = refl
@@ -85,16 +83,12 @@ module _ (s t : State) (h : SameBut s t) where
   unfolding transact_of
   call-pack c = ap₂ (λ (p : Pack) (n : ℕ). pack_after p (asked c.read c.bytes) n) h.pack (call-answer c)
 
-  -- what a word read shows, over the register's own word
-  abbrev shows : Call → ℕ → ℕ → List ℕ
-  shows c command word = word_body (cond (is_word command) (cond (good_sheets c.service c.factory) (word_or c.service c.factory command word) 0) word)
-
   -- what a read shows, but of BatteryStatus
   same_body : (c : Call) (command : ℕ) → (command ≡ 0x16 → ⊥) → (k : Kind)
       → read_body (pack_side s c.service c.factory) command k ≡ read_body (pack_side t c.service c.factory) command k
   same_body c command n Block = refl
-  same_body c command n ReadOnly = ap (shows c command) (other_words s t command h.pack n)
-  same_body c command n ReadWrite = ap (shows c command) (other_words s t command h.pack n)
+  same_body c command n ReadOnly = ap word_body (other_words s t command h.pack n)
+  same_body c command n ReadWrite = ap word_body (other_words s t command h.pack n)
   same_body c command n WriteOnly = refl
   same_body c command n Optional = refl
   same_body c command n Reserved = refl

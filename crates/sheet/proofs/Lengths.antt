@@ -6,7 +6,7 @@ use Prim.Native.Nat.{ℕ, zero, suc, ◌+◌, ◌*◌, ◌≤◌}
 use native.Mathlib.Omega.{arith}
 use lib.ListN.{length}
 use borrow.Author.Tests.{eqb-true}
-use Rattle.sheet.specs.Sheet.{Entry, TagKind, Form, rows_of, rows_and_bodies, longest, tag_at, length_at, rows_listed, rows_ok, is_sheet_of}
+use Rattle.sheet.specs.Sheet.{Entry, TagKind, Form, old, rows_of, rows_and_bodies, longest, tag_at, length_at, rows_listed, rows_ok, is_sheet_of, is_sheet}
 use Rattle.sheet.proofs.Tags.{over, over_one, over_all}
 use Rattle.sheet.proofs.Rows.{first_right, contents}
 
@@ -34,6 +34,10 @@ pub at_most : (f : Form) (s : List ℕ) → is_sheet_of f s ≡ true → length 
 at_most f s e =
     let c = contents f s e in
     omega (arith, rows_most f.kinds (rows_listed s) s 1 0 (1 + 4 * rows_listed s) c.rows, all_kinds f.kinds)
+
+pub at_most_145 : (s : List ℕ) → is_sheet s ≡ true → length s ≤ 145
+unfolding old
+at_most_145 s e = at_most old s e
 
 pub rows_length : (es : List Entry) (offset : ℕ) → length (rows_of offset es) ≡ 4 * length es
 rows_length [] offset = refl

@@ -1,4 +1,5 @@
 pub mod Tags
 pub mod Rows
 pub mod Lengths
+pub mod Names
 pub mod Entries

@@ -1,5 +1,5 @@
--- Document 01, Pack sheet and capture, and request R-12: what a pack sheet of a form is, and the test for one. Definitions: assumes nothing.
-use Rattle.std.specs.Prelude.{Bool, false, cond, ◌&&◌, ◌||◌, List, [], ◌∷◌, ◌++◌, ℕ, zero, suc, ◌+◌, ◌*◌, ◌/◌, ◌%◌, eqb, ltb, leb, length, get_or}
+-- Document 01, Pack sheet and capture: what a pack sheet is, and the test for one. Definitions: assumes nothing.
+use Rattle.std.specs.Prelude.{Bool, false, cond, ◌&&◌, List, [], ◌∷◌, ◌++◌, ℕ, zero, suc, ◌+◌, ◌*◌, ◌/◌, ◌%◌, eqb, ltb, leb, length, get_or}
 use Rattle.std.proofs.Math.Option.{Option, none, some}
 use Rattle.rooms.specs.Rooms.{between}
 
@@ -37,25 +37,9 @@ pub record Form : Type 0 where
 abbrev pub name : ℕ → TagKind
 name tag = record { tag = tag; least = 0; most = 32 }
 
--- the tags of block names
-abbrev pub names : List TagKind
-names = name 0x20 ∷ name 0x21 ∷ name 0x22 ∷ name 0x23 ∷ []
-
--- a word has two bytes (RULES 9.11)
-abbrev pub word : ℕ → TagKind
-word tag = record { tag = tag; least = 2; most = 2 }
-
--- the old form, document 01's: the first byte is n, 0 to 4, and the tags are 20 to 23 (RULES 9.1, 9.2)
+-- the form of document 01: the first byte is n, 0 to 4, and the tags are 20 to 23 (RULES 9.1, 9.2)
 unfoldable pub old : Form
-old = record { mark = 0; kinds = names }
-
--- the new form, request R-12's: the first byte is 0x80 + n, n from 0 to 6, and the words 1B and 1C may stand before 20 (RULES 9.11)
-unfoldable pub new : Form
-new = record { mark = 0x80; kinds = word 0x1B ∷ word 0x1C ∷ names }
-
--- the one of the two
-abbrev pub form_for : Bool → Form
-form_for is_new = cond is_new new old
+old = record { mark = 0; kinds = name 0x20 ∷ name 0x21 ∷ name 0x22 ∷ name 0x23 ∷ [] }
 
 -- the contents: the first byte, then the rows; the first body starts right after them (RULES 9.1)
 abbrev pub contents_of : Form → List Entry → List ℕ
@@ -110,17 +94,9 @@ is_sheet_of f s =
     ltb 0 (length s) && eqb (get_or s 0 0) (f.mark + rows_listed s) && leb (rows_listed s) (length f.kinds) && leb (1 + 4 * rows_listed s) (length s)
     && rows_ok f.kinds (rows_listed s) s 1 0 (1 + 4 * rows_listed s)
 
--- bytes are an old sheet: what the old reader takes (RULES 9.1 to 9.3)
+-- bytes are a sheet (RULES 9)
 abbrev pub is_sheet : List ℕ → Bool
 is_sheet s = is_sheet_of old s
-
--- bytes are a new sheet (RULES 9.11)
-abbrev pub is_new_sheet : List ℕ → Bool
-is_new_sheet s = is_sheet_of new s
-
--- bytes are a sheet of either form; others are a bad sheet (RULES 9.12)
-unfoldable pub is_good : List ℕ → Bool
-is_good s = is_sheet s || is_new_sheet s
 
 -- ---- what bytes list, by their rows
 

@@ -5,10 +5,11 @@ use mathlib.Core.List.{List, [], ◌∷◌, ◌++◌}
 use mathlib.Core.Option.{Option, none, some}
 use Prim.Native.Nat.{ℕ, ◌+◌, ◌≤◌, ◌<◌}
 use native.Mathlib.Omega.{arith}
-use Rattle.sheet.specs.Sheet.{Entry, TagKind}
+use lib.ListN.{length}
+use Rattle.sheet.specs.Sheet.{Entry, TagKind, allows}
 use Rattle.sheet_forms.specs.Forms.{listable}
 use Rattle.sheet_forms.proofs.Entries.{First, first, cons, lower}
-use Rattle.sheet_edit.specs.Edit.{below, above, entry_for, edited, fits}
+use Rattle.sheet_edit.specs.Edit.{below, above, entry_for, edited}
 use Rattle.sheet_edit.proofs.Entries.{Order, is-less, is_same, is-more, order, when-less, when-same, when-more, high}
 
 -- ---- an edit, entry by entry
@@ -38,7 +39,12 @@ module _ (ks : List TagKind) (tag : ℕ) (to : Option (List ℕ)) where
 
 -- ---- they may be listed
 
-entry_may : (ks : List TagKind) (low tag : ℕ) (to : Option (List ℕ)) (es : List Entry) → low ≤ tag → fits ks tag to ≡ true → listable ks (tag + 1) es ≡ true
+-- what an edit brings may stand under its tag
+abbrev pub Allowed : List TagKind → ℕ → Option (List ℕ) → Type 0
+Allowed ks tag none = Unit {0}
+Allowed ks tag (some body) = allows ks tag (length body) ≡ true
+
+entry_may : (ks : List TagKind) (low tag : ℕ) (to : Option (List ℕ)) (es : List Entry) → low ≤ tag → Allowed ks tag to → listable ks (tag + 1) es ≡ true
     → listable ks low (entry_for tag to ++ es) ≡ true
 entry_may ks low tag none es h a g = lower ks low (tag + 1) es (omega arith) g
 entry_may ks low tag (some body) es h a g = cons ks low (record { tag = tag; body = body }) es (record { least = h; allowed = a; rest = g })
@@ -47,7 +53,7 @@ entry_may ks low tag (some body) es h a g = cons ks low (record { tag = tag; bod
 pub from_first : (ks : List TagKind) (low t : ℕ) (e : Entry) (es : List Entry) → listable ks low (e ∷ es) ≡ true → t < e.tag → listable ks (t + 1) (e ∷ es) ≡ true
 from_first ks low t e es g h = let f = first ks low e es g in cons ks (t + 1) e es (record { least = omega arith; allowed = f.allowed; rest = f.rest })
 
-pub edited_may : (ks : List TagKind) (low tag : ℕ) (to : Option (List ℕ)) (es : List Entry) → listable ks low es ≡ true → low ≤ tag → fits ks tag to ≡ true
+pub edited_may : (ks : List TagKind) (low tag : ℕ) (to : Option (List ℕ)) (es : List Entry) → listable ks low es ≡ true → low ≤ tag → Allowed ks tag to
     → listable ks low (edited tag to es) ≡ true
 unfolding listable
 edited_may ks low tag to [] g h a = rw (edited-none ks tag to) (entry_may ks low tag to [] h a refl)

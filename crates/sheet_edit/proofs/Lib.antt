@@ -1,4 +1,3 @@
-pub mod Tags
 pub mod Entries
 pub mod After
 pub mod Shapes

@@ -1,7 +1,7 @@
--- Requests R-9 and R-12: what an edit of the sheet in a lent room gives, answer, length and room. Nothing here speaks of moving bytes. Definitions: assumes nothing.
-use Rattle.std.specs.Prelude.{Bool, true, false, cond, ◌&&◌, ◌||◌, List, [], ◌∷◌, ◌++◌, ℕ, ◌-◌, max, eqb, ltb, leb, length, take, drop, replicate}
+-- Request R-9: what an edit of the sheet in a lent room gives, answer, length and room. Nothing here speaks of moving. Definitions: assumes nothing.
+use Rattle.std.specs.Prelude.{Bool, cond, ◌&&◌, List, [], ◌∷◌, ◌++◌, ℕ, ◌-◌, max, eqb, ltb, leb, length, take, drop, replicate}
 use Rattle.std.proofs.Math.Option.{Option, none, some}
-use Rattle.sheet.specs.Sheet.{Entry, TagKind, Form, form_for, sheet_of, allows, is_new_sheet, is_good, entries_in}
+use Rattle.sheet.specs.Sheet.{Entry, old, sheet_of, is_sheet, entries_in}
 use Rattle.sheet_edit.specs.declared.Edited.{Edited}
 
 -- ---- the entries
@@ -27,37 +27,30 @@ edited tag to es = below tag es ++ (entry_for tag to ++ above tag es)
 
 -- ---- the sheet
 
--- the room's front is a sheet of the stated length, of either form
+-- the room's front is a sheet of the stated length
 unfoldable pub holds_sheet : List ℕ → ℕ → Bool
-holds_sheet room stated = leb stated (length room) && is_good (take stated room)
+holds_sheet room stated = leb stated (length room) && is_sheet (take stated room)
 
--- the form that the edit finds there (RULES 9.17)
-abbrev pub form_in : List ℕ → ℕ → Form
-form_in room stated = form_for (is_new_sheet (take stated room))
-
--- the sheet of the entries after the edit, in the form that it found (RULES 9.7, 9.17)
+-- the sheet of the entries after the edit (RULES 9.7)
 abbrev pub sheet_after : List ℕ → ℕ → ℕ → Option (List ℕ) → List ℕ
-sheet_after room stated tag to = sheet_of (form_in room stated) (edited tag to (entries_in (take stated room)))
+sheet_after room stated tag to = sheet_of old (edited tag to (entries_in (take stated room)))
 
 -- ---- the answer
 
--- a form's tags
-unfoldable pub has_tag : List TagKind → ℕ → Bool
-has_tag [] tag = false
-has_tag (k ∷ ks) tag = eqb k.tag tag || has_tag ks tag
+-- the tags of block names
+abbrev pub is_name : ℕ → Bool
+is_name tag = leb 0x20 tag && leb tag 0x23
 
--- what an edit puts under a tag has a length that the form allows there; a removal puts nothing
-abbrev pub fits : List TagKind → ℕ → Option (List ℕ) → Bool
-fits ks tag none = true
-fits ks tag (some body) = allows ks tag (length body)
+-- how many bytes an edit brings
+abbrev pub size_of : Option (List ℕ) → ℕ
+size_of none = 0
+size_of (some body) = length body
 
--- 9: no sheet of the stated length at the front; 18: the tag isn't one of its form's; 19: a body over 32 bytes, or a word of other than two;
--- 20: the sheet would be longer than the room (RULES 1.9, 1.18 to 1.20)
+-- 9: no sheet of the stated length at the front; 18: the tag isn't 20 to 23; 19: the body is over 32 bytes; 20: the sheet would be longer than the room (RULES 1.9, 1.18 to 1.20)
 unfoldable pub edit_answer : List ℕ → ℕ → ℕ → Option (List ℕ) → ℕ
 edit_answer room stated tag to =
     cond (holds_sheet room stated)
-    (cond (has_tag (form_in room stated).kinds tag)
-    (cond (fits (form_in room stated).kinds tag to) (cond (leb (length (sheet_after room stated tag to)) (length room)) 0 20) 19) 18)
+    (cond (is_name tag) (cond (leb (size_of to) 32) (cond (leb (length (sheet_after room stated tag to)) (length room)) 0 20) 19) 18)
     9
 
 -- ---- what comes out

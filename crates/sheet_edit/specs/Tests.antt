@@ -1,9 +1,7 @@
 -- The refusals that an edit can tell before it looks at how long the new sheet is. Definitions: assumes nothing.
-use Rattle.std.specs.Prelude.{Bool, cond, not, ◌&&◌, List, ℕ}
-use Rattle.sheet.specs.Sheet.{allows}
-use Rattle.sheet_edit.specs.Edit.{holds_sheet, form_in, has_tag}
+use Rattle.std.specs.Prelude.{cond, List, ℕ, leb}
+use Rattle.sheet_edit.specs.Edit.{holds_sheet, is_name}
 
--- 9, 18 or, where the edit sets a body of so many bytes, 19; else 0
-unfoldable pub refusal_of : List ℕ → ℕ → ℕ → Bool → ℕ → ℕ
-refusal_of room stated tag sets size =
-    cond (holds_sheet room stated) (cond (has_tag (form_in room stated).kinds tag) (cond (sets && not (allows (form_in room stated).kinds tag size)) 19 0) 18) 9
+-- 9, 18 or 19; else 0
+unfoldable pub refusal_of : List ℕ → ℕ → ℕ → ℕ → ℕ
+refusal_of room stated tag size = cond (holds_sheet room stated) (cond (is_name tag) (cond (leb size 32) 0 19) 18) 9

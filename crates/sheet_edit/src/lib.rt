@@ -1,42 +1,36 @@
-// Edits of a pack sheet in place: one body set (added or replaced) or removed, in a lent room that holds the sheet, of either form, in its first bytes.
+// Edits of a pack sheet in place: one body set (added or replaced) or removed, in a lent room that holds the sheet in its first bytes.
 ghost use Rattle.std.specs.Prelude.{◌≡◌};
 ghost use Rattle.std.proofs.Math.Option.{none, some};
-ghost use Rattle.sheet.specs.Sheet.{form_for};
-ghost use Rattle.sheet_edit.specs.Edit.{has_tag, edit_of, room_after};
+ghost use Rattle.sheet_edit.specs.Edit.{is_name, edit_of, room_after};
 ghost use Rattle.sheet_edit.specs.Tests.{refusal_of};
 
 // What an edit answers: 0 and the new sheet's length; or 9, 18, 19 or 20, and 0.
-#[derive(Drop)]
+#[derive(Clone, Copy)]
 pub struct Edited {
     pub answer: u8,
     pub length: usize,
 }
 
-// Whether a form has a tag.
-fn has_tag(new: bool, tag: u8) -> bool
-    ensures { result ≡ has_tag (form_for new).kinds tag }
+fn is_name(tag: u8) -> bool
+    ensures { result ≡ is_name tag }
 {
-    if sheets::is_word(tag) {
-        return new;
-    }
     (0x20 <= tag) & (tag <= 0x23)
 }
 
-// 9, 18 or 19, for an edit that sets a body of so many bytes, or removes one; else 0.
-fn refusal(room: &[u8], stated: usize, tag: u8, sets: bool, size: usize) -> u8
-    ensures { result ≡ refusal_of room.now stated tag sets size }
+// 9, 18 or 19, for an edit that brings so many bytes; else 0.
+fn refusal(room: &[u8], stated: usize, tag: u8, size: usize) -> u8
+    ensures { result ≡ refusal_of room.now stated tag size }
 {
     if room.len() < stated {
         return 9;
     }
-    let new = sheets::is_sheet_of(true, &room[..stated]);
-    if !(sheets::is_sheet_of(false, &room[..stated]) | new) {
+    if !sheet::is_sheet(&room[..stated]) {
         return 9;
     }
-    if !has_tag(new, tag) {
+    if !is_name(tag) {
         return 18;
     }
-    if sets & !sheets::allowed(new, tag, size) {
+    if 32 < size {
         return 19;
     }
     0
@@ -48,11 +42,11 @@ pub fn set(room: &mut [u8], stated: usize, tag: u8, body: &[u8]) -> Edited
     ensures room_after { room.new ≡ room_after room.old stated tag (some body.now) }
 {
     let size = body.len();
-    let answer = refusal(room, stated, tag, true, size);
+    let answer = refusal(room, stated, tag, size);
     if answer != 0 {
         return Edited { answer, length: 0 };
     }
-    let n = sheets::rows(room[0]);
+    let n = rooms::wide(room[0]);
     let span = sheet_steps::span_of(&room[..stated], n, tag);
     let rows = span.past - span.row;
     let freed = sheet_steps::rows_size(rows);
@@ -74,11 +68,11 @@ pub fn remove(room: &mut [u8], stated: usize, tag: u8) -> Edited
     ensures value { result ≡ edit_of room.old stated tag none }
     ensures room_after { room.new ≡ room_after room.old stated tag none }
 {
-    let answer = refusal(room, stated, tag, false, 0);
+    let answer = refusal(room, stated, tag, 0);
     if answer != 0 {
         return Edited { answer, length: 0 };
     }
-    let n = sheets::rows(room[0]);
+    let n = rooms::wide(room[0]);
     let span = sheet_steps::span_of(&room[..stated], n, tag);
     let freed = sheet_steps::rows_size(span.past - span.row);
     let length = stated - (span.to - span.from) - freed;

@@ -1,6 +1,6 @@
 -- Over any form: bytes are a sheet exactly when they are that of some entries that the form may list; read back; one choice. Assumes nothing.
 use mathlib.Core.Path.{◌≡◌, refl, sym, ap, ◌∙◌}
-use mathlib.Core.Bool.{Bool, true, false}
+use mathlib.Core.Bool.{true}
 use mathlib.Core.List.{List, [], ◌∷◌, ◌++◌}
 use Prim.Native.Nat.{ℕ, zero, suc, ◌+◌, ◌*◌, ◌-◌, ◌/◌, ◌%◌, ◌≤◌, ◌<◌}
 use native.Mathlib.Omega.{arith}
@@ -9,24 +9,16 @@ use lib.Seq.{drop-cons, drop-drop, length-take-le}
 use borrow.Author.Tests.{lt-ltb, le-leb, eq-eqb, eqb-true}
 use Rattle.rooms.proofs.Rooms.{byte_at}
 use Rattle.rooms.specs.Rooms.{Bytes, between}
-use Rattle.sheet.specs.Sheet.{Entry, rows_of, bodies_of, TagKind, Form, old, new, form_for, sheet_of, tag_at, length_at, offset_at, rows_listed, row_ok, rows_ok, is_sheet_of, entries_from, entries_in}
+use Rattle.sheet.specs.Sheet.{Entry, rows_of, bodies_of, TagKind, Form, old, sheet_of, tag_at, length_at, offset_at, rows_listed, row_ok, rows_ok, is_sheet_of, entries_from, entries_in}
 use Rattle.sheet.proofs.Rows.{RowRight, first_right, reach, contents}
 use Rattle.sheet.proofs.Entries.{sheet_size}
 use Rattle.sheet_forms.specs.Forms.{Proper, listable}
-use Rattle.sheet_forms.specs.Laws.{SheetExactly, SheetOneChoice, SheetAllowed, SheetOneMark}
+use Rattle.sheet_forms.specs.Laws.{SheetExactly, SheetOneChoice, SheetAllowed}
 use Rattle.sheet_forms.proofs.Entries.{first, cons, among_allowed, few_entries, row, read_back}
 
 pub old_proper : Proper old
 unfolding old
 old_proper = record { marks = refl; few = omega arith }
-
-pub new_proper : Proper new
-unfolding new
-new_proper = record { marks = refl; few = omega arith }
-
-pub form_proper : (is_new : Bool) → Proper (form_for is_new)
-form_proper true = new_proper
-form_proper false = old_proper
 
 -- ---- the sheet of entries that may be listed is a sheet
 
@@ -72,13 +64,13 @@ four_more s at n h =
     let d : drop at s ≡ get_or s at 0 ∷ get_or s (suc at) 0 ∷ get_or s (suc (suc at)) 0 ∷ get_or s (suc (suc (suc at))) 0 ∷ drop (suc (suc (suc (suc at)))) s = cc in
     rw (y, d, z₁, z₂, z₃, z₄)
 
-pub entries_count : (n : ℕ) (s : List ℕ) (at : ℕ) → length (entries_from n s at) ≡ n
+entries_count : (n : ℕ) (s : List ℕ) (at : ℕ) → length (entries_from n s at) ≡ n
 unfolding entries_from
 entries_count zero s at = refl
 entries_count (suc n) s at = ap suc (entries_count n s (at + 4))
 
 -- the n rows from `at` on, with bodies from `end` on, are those of the entries that they list
-pub record Read (ks : List TagKind) (s : List ℕ) (es : List Entry) (n at low end : ℕ) : Type 0 where
+record Read (ks : List TagKind) (s : List ℕ) (es : List Entry) (n at low end : ℕ) : Type 0 where
   pub rows : Bytes s → take (4 * n) (drop at s) ≡ rows_of end es
   pub rest : drop end s ≡ bodies_of es
   pub may : listable ks low es ≡ true
@@ -125,10 +117,10 @@ read ks s (suc n) at low end h e =
     one-row ks s (entries_from n s (at + 4)) n at low end h f.0 in-sheet (read ks s n (at + 4) (tag_at s at + 1) (end + length_at s at) (omega arith) f.1)
 
 module _ (f : Form) (s : List ℕ) (e : is_sheet_of f s ≡ true) where
-  pub reads : Read f.kinds s (entries_in s) (rows_listed s) 1 0 (1 + 4 * rows_listed s)
+  reads : Read f.kinds s (entries_in s) (rows_listed s) 1 0 (1 + 4 * rows_listed s)
   reads = let c = contents f s e in read f.kinds s (rows_listed s) 1 0 (1 + 4 * rows_listed s) c.fits c.rows
 
-  pub sheet_is : Bytes s → s ≡ sheet_of f (entries_in s)
+  sheet_is : Bytes s → s ≡ sheet_of f (entries_in s)
   unfolding sheet_of
   sheet_is bytes =
       let n : ℕ = rows_listed s in
@@ -151,6 +143,3 @@ one_choice f P es ds g h e = sym (read_back f P es g) ∙ ap entries_in e ∙ re
 
 pub listed_allowed : (f : Form) → SheetAllowed f
 listed_allowed f s tag body e h = among_allowed f.kinds 0 tag body (entries_in s) (reads f s e).may h
-
-pub one_mark : (f g : Form) → SheetOneMark f g
-one_mark f g s e h = omega (arith, (contents f s e).marked, (contents g s h).marked)

@@ -20,7 +20,3 @@ SheetOneChoice f = (es ds : List Entry) → length es < 128 → length ds < 128 
 -- what a sheet lists, its form allows
 abbrev pub SheetAllowed : Form → Type 0
 SheetAllowed f = (s : List ℕ) (tag : ℕ) (body : List ℕ) → is_sheet_of f s ≡ true → body_in s tag ≡ some body → allows f.kinds tag (length body) ≡ true
-
--- bytes that are sheets of two forms begin with the same mark
-abbrev pub SheetOneMark : Form → Form → Type 0
-SheetOneMark f g = (s : List ℕ) → is_sheet_of f s ≡ true → is_sheet_of g s ≡ true → f.mark ≡ g.mark

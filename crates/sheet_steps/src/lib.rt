@@ -3,7 +3,7 @@ ghost use Rattle.std.specs.Prelude.{◌≡◌, cond, ◌+◌, ◌*◌, ◌<◌, 
 ghost use Rattle.sheet_steps.specs.Steps.{count_below, place_in, span_in, laid, taken_out, put_in};
 
 // The rows with a tag, one or none, from the first to past the last, and their bodies.
-#[derive(Drop)]
+#[derive(Clone, Copy)]
 pub struct Span {
     pub row: usize,
     pub past: usize,

@@ -1,8 +1,8 @@
--- What the writer lays down: entries one after another are those of the choice, and lie as in its sheet, of either form. Assumes nothing.
+-- What the writer lays down: entries one after another are those of the choice, and lie as in its sheet. Assumes nothing.
 use mathlib.Core.Path.{◌≡◌, refl, sym, ap, ◌∙◌}
 use mathlib.Core.Bool.{Bool, true, false, cond, not, ◌&&◌, ◌||◌, and-eq-true_iff, and_assoc, and-true}
 use mathlib.Core.List.{List, [], ◌∷◌, ◌++◌, append-nil}
-use Prim.Native.Nat.{ℕ, suc, ◌+◌, ◌*◌, ◌/◌, ◌%◌, ◌≤◌, ◌<◌}
+use Prim.Native.Nat.{ℕ, suc, ◌+◌, ◌*◌, ◌/◌, ◌%◌, ◌^◌, ◌≤◌, ◌<◌}
 use native.Mathlib.Nat.{add-zero}
 use native.Mathlib.Omega.{arith}
 use lib.Dec.{leb}
@@ -12,11 +12,11 @@ use borrow.Author.Tests.{leb-true}
 use Rattle.rooms.specs.declared.Wrote.{Wrote}
 use Rattle.rooms.specs.Rooms.{wrote}
 use Rattle.rooms.proofs.Rooms.{sets_append, then, front}
-use Rattle.sheet.specs.Sheet.{Entry, rows_of, contents_of, bodies_of, Form, form_for, sheet_of}
+use Rattle.sheet.specs.Sheet.{Entry, rows_of, contents_of, bodies_of, old, sheet_of}
 use Rattle.sheet.proofs.Entries.{bodies_append, bodies_length, rows_append, sheet_size}
 use Rattle.sheet.proofs.Lengths.{rows_length}
 use Rattle.sheet_writer.specs.declared.Cursor.{Cursor}
-use Rattle.sheet_writer.specs.Writing.{entry_if, choice, word_bytes, new_choice, short, least_room, writable, sheet_wrote, sheet_room}
+use Rattle.sheet_writer.specs.Writing.{entry_if, choice, short, writable, sheet_wrote, sheet_room}
 use Rattle.sheet_writer.specs.Laying.{Place, laid, past, Put}
 
 -- ---- entries and then others
@@ -147,22 +147,7 @@ module _ (h : Bool) (b : List ℕ) (i : Bool) (c : List ℕ) (j : Bool) (d : Lis
   pub choice-few : length es ≤ 4
   choice-few = omega (arith, choice-count, at_most_one h, at_most_one i, at_most_one j, at_most_one k)
 
--- ---- the choice with words before it
-
-word_size : (tag : ℕ) (has : Bool) (w : ℕ) → length (bodies_of (entry_if tag has (word_bytes w))) ≡ 2 * cond has 1 0
-word_size tag true w = refl
-word_size tag false w = refl
-
-word_short : (tag : ℕ) (has : Bool) (w : ℕ) → short (entry_if tag has (word_bytes w)) ≡ true
-word_short tag true w = refl
-word_short tag false w = refl
-
--- an old sheet has no words, a new one at most two
-few_words : (is_new x y : Bool) → is_new || not (x || y) ≡ true → cond x 1 0 + cond y 1 0 ≤ cond is_new 2 0
-few_words true x y h = omega (arith, at_most_one x, at_most_one y)
-few_words false false false h = omega arith
-few_words false false true h = let z : ◌≡◌ {A = ℕ} 0 1 = cc in absurd (omega arith)
-few_words false true y h = let z : ◌≡◌ {A = ℕ} 0 1 = cc in absurd (omega arith)
+-- ---- the sheet
 
 bodies_most : (es : List Entry) → short es ≡ true → length (bodies_of es) ≤ 32 * length es
 bodies_most [] h = omega arith
@@ -170,115 +155,59 @@ bodies_most (e ∷ es) h =
     let s = (and-eq-true_iff (leb (length e.body) 32) (short es)).0 h in
     omega (arith, leb-true (length e.body) 32 s.0, bodies_most es s.1, length-append e.body (bodies_of es))
 
-pub least_some : (is_new : Bool) → 1 ≤ least_room is_new
-least_some true = omega arith
-least_some false = omega arith
+sheet_most : (es : List Entry) → length es ≤ 4 → short es ≡ true → length (sheet_of old es) ≤ 145
+sheet_most es few h = omega (arith, sheet_size old es, bodies_most es h)
 
-least_small : (is_new : Bool) → least_room is_new ≤ 157
-least_small true = omega arith
-least_small false = omega arith
-
-most_room : (is_new : Bool) (n : ℕ) → n ≤ 145 + 6 * cond is_new 2 0 → n ≤ least_room is_new
-most_room true n h = omega arith
-most_room false n h = omega arith
-
-module _ (x : Bool) (v : ℕ) (y : Bool) (w : ℕ) (h : Bool) (b : List ℕ) (i : Bool) (c : List ℕ) (j : Bool) (d : List ℕ) (k : Bool) (e : List ℕ) where
-  abbrev names : List Entry
-  names = choice h b i c j d k e
-
-  abbrev from1_c : List Entry
-  from1_c = entry_if 0x1C y (word_bytes w) ++ names
-
-  abbrev all : List Entry
-  all = new_choice x v y w h b i c j d k e
-
-  pub new-short : short all ≡ short names
-  new-short =
-      rw (short_append (entry_if 0x1B x (word_bytes v)) from1_c, short_append (entry_if 0x1C y (word_bytes w)) names, word_short 0x1B x v, word_short 0x1C y w)
-
-  -- the answer is 0 where they can be written
-  pub answered : (is_new : Bool) (room : List ℕ) (a : ℕ) (t : Bool) (least : ℕ) → a ≡ cond (t && leb least (length room)) 0 12 → t ≡ short names → least ≡ least_room is_new → a ≡ cond (writable is_new all room) 0 12
-  unfolding writable
-  answered is_new room a t least p q r = p ∙ rw (q, r, new-short)
-
-  pub new-count : length all ≡ cond x 1 0 + cond y 1 0 + (cond h 1 0 + cond i 1 0 + cond j 1 0 + cond k 1 0)
-  new-count =
-      omega (
-        arith,
-        length-append (entry_if 0x1B x (word_bytes v)) from1_c,
-        length-append (entry_if 0x1C y (word_bytes w)) names,
-        one_count 0x1B x (word_bytes v),
-        one_count 0x1C y (word_bytes w),
-        choice-count h b i c j d k e,
-      )
-
-  pub new-few : length all ≤ 6
-  new-few = omega (arith, new-count, choice-count h b i c j d k e, choice-few h b i c j d k e, at_most_one x, at_most_one y)
-
-  -- a written sheet fits the least room
-  pub sheet-most : (is_new : Bool) → is_new || not (x || y) ≡ true → short all ≡ true → length (sheet_of (form_for is_new) all) ≤ least_room is_new
-  sheet-most is_new only s =
-      let bodies : length (bodies_of all) ≡ 2 * cond x 1 0 + (2 * cond y 1 0 + length (bodies_of names)) =
-      omega (arith, bodies_length (entry_if 0x1B x (word_bytes v)) from1_c, bodies_length (entry_if 0x1C y (word_bytes w)) names, word_size 0x1B x v, word_size 0x1C y w) in
-      most_room is_new (length (sheet_of (form_for is_new) all))
-      (omega (arith, sheet_size (form_for is_new) all, new-count, choice-count h b i c j d k e, choice-few h b i c j d k e, bodies_most names (sym new-short ∙ s), few_words is_new x y only))
-
--- ---- the sheet
-
-module _ (is_new : Bool) (es : List Entry) (room : List ℕ) where
+module _ (es : List Entry) (room : List ℕ) where
   -- what is answered, and what the room then holds
   abbrev Owed : Wrote → List ℕ → Type 0
-  Owed answer after = (answer ≡ sheet_wrote is_new es room) × (after ≡ sheet_room is_new es room)
+  Owed answer after = (answer ≡ sheet_wrote es room) × (after ≡ sheet_room es room)
 
   by_answer : (a : ℕ) (ok : Bool) → a ≡ cond ok 0 12 → ((a ≡ 0 → ⊥) → (ok ≡ false) × (a ≡ 12)) × (a ≡ 0 → ok ≡ true)
   by_answer a true e = (λ ne. absurd (ne e), λ _. refl)
   by_answer a false e = (λ _. (refl, e), λ z. absurd (omega arith))
 
-  pub refused : (a : ℕ) → a ≡ cond (writable is_new es room) 0 12 → (a ≡ 0 → ⊥) → Owed (wrote a 0) room
+  pub refused : (a : ℕ) → a ≡ cond (writable es room) 0 12 → (a ≡ 0 → ⊥) → Owed (wrote a 0) room
   unfolding sheet_wrote sheet_room
-  refused a e ne = let f = (by_answer a (writable is_new es room) e).0 ne in (rw (f.0, f.1), rw f.0)
+  refused a e ne = let f = (by_answer a (writable es room) e).0 ne in (rw (f.0, f.1), rw f.0)
 
-  pub allowed : (a : ℕ) → a ≡ cond (writable is_new es room) 0 12 → a ≡ 0 → writable is_new es room ≡ true
-  allowed a e = (by_answer a (writable is_new es room) e).1
+  pub allowed : (a : ℕ) → a ≡ cond (writable es room) 0 12 → a ≡ 0 → writable es room ≡ true
+  allowed a e = (by_answer a (writable es room) e).1
 
-  pub facts : writable is_new es room ≡ true → (short es ≡ true) × (least_room is_new ≤ length room)
+  pub facts : writable es room ≡ true → (short es ≡ true) × (145 ≤ length room)
   unfolding writable
-  facts ok = let a = (and-eq-true_iff (short es) (leb (least_room is_new) (length room))).0 ok in (a.0, leb-true (least_room is_new) (length room) a.1)
+  facts ok = let a = (and-eq-true_iff (short es) (leb 145 (length room))).0 ok in (a.0, leb-true 145 (length room) a.1)
 
-  -- they fit; begun with their number, there is place for them
-  module _ (ok : writable is_new es room ≡ true) (most : length (sheet_of (form_for is_new) es) ≤ least_room is_new) (n : ℕ) (count : n ≡ length es) (first : List ℕ) (start : Cursor)
-      (began : (start ≡ record { row = 1; end = 1 + 4 * n }) × (first ≡ set room 0 ((form_for is_new).mark + n))) where
-    pub place-all : Place first start es
+  module _ (few : length es ≤ 4) (ok : writable es room ≡ true) (n : ℕ) (count : n ≡ length es) where
+    abbrev start : Cursor
+    start = record { row = 1; end = 1 + n * 2 ^ 2 % 2 ^ 64 }
+
+    -- the shift loses no bit
+    exact : start.end ≡ 1 + 4 * n
+    exact = omega arith
+
+    pub place-all : Place (set room 0 n) start es
     place-all =
-        let l : length (set room 0 ((form_for is_new).mark + n)) ≡ length room = simp length-set in
-        rw (began.0, began.1) (record {
-          rows = omega arith;
-          bodies = omega (arith, (facts ok).1, sheet_size (form_for is_new) es);
-          offsets = omega (arith, sheet_size (form_for is_new) es, least_small is_new);
-          small = (facts ok).0;
-        })
+        let l : length (set room 0 n) ≡ length room = simp length-set in
+        let b = bodies_most es (facts ok).0 in
+        record { rows = omega arith; bodies = omega (arith, (facts ok).1); offsets = omega arith; small = (facts ok).0 }
 
-    -- and laid there they are the sheet
-    pub written : {m : List ℕ} {last : Cursor} (a : ℕ) → a ≡ 0 → Put first start es m last → Owed (wrote a last.end) m
-    unfolding sheet_wrote sheet_room sheet_of
-    written {m} {last} a z put =
-        let f : Form = form_for is_new in
-        let C : List ℕ = contents_of f es in
-        let all = rw (began.0, began.1) at put in
-        let past : 1 + 4 * n ≡ 0 + length C = omega (arith, rows_length es (1 + 4 * length es)) in
-        let l : last.end ≡ length (sheet_of f es) = ap (λ (c : Cursor). c.end) all.0 ∙ omega (arith, sheet_size f es) in
-        let s : sets (set room 0 (f.mark + n)) 1 (rows_of (1 + 4 * n) es) ≡ sets room 0 C = rw count in
-        (rw (z, ok, l), rw ok (all.1 ∙ then room 0 (1 + 4 * n) C (bodies_of es) s past ∙ front (sheet_of f es) room (omega (arith, most, (facts ok).1))))
+    -- byte n, and then the rows and the bodies of all
+    pub written : {m : List ℕ} {last : Cursor} (a : ℕ) → a ≡ 0 → Put (set room 0 n) start es m last → Owed (wrote a last.end) m
+    unfolding sheet_wrote sheet_room sheet_of old
+    written {m} {last} a z given =
+        let all = rw exact at given in
+        let C : List ℕ = contents_of old es in
+        let f : 1 + 4 * n ≡ 0 + length C = omega (arith, rows_length es (1 + 4 * length es)) in
+        let l : last.end ≡ length (sheet_of old es) = ap (λ (a : Cursor). a.end) all.0 ∙ omega (arith, sheet_size old es) in
+        let s : sets (set room 0 n) 1 (rows_of (1 + 4 * n) es) ≡ sets room 0 C = let z : 0 + length es ≡ length es = omega arith in rw (count, z) in
+        (rw (z, ok, l), rw ok (all.1 ∙ then room 0 (1 + 4 * n) C (bodies_of es) s f ∙ front (sheet_of old es) room (omega (arith, sheet_most es few (facts ok).0, (facts ok).1))))
 
-  -- where they fit, a length within the least room is answered
-  most-wrote : (short es ≡ true → length (sheet_of (form_for is_new) es) ≤ least_room is_new) → (sheet_wrote is_new es room).length ≤ least_room is_new
-  unfolding sheet_wrote
-  most-wrote most = by-test (writable is_new es room) refl
-    where
-      by-test : (t : Bool) → writable is_new es room ≡ t → (cond t (wrote 0 (length (sheet_of (form_for is_new) es))) (wrote 12 0)).length ≤ least_room is_new
-      by-test true ok = most (facts ok).0
-      by-test false bad = omega arith
-
-pub wrote_most : (is_new x : Bool) (v : ℕ) (y : Bool) (w : ℕ) (h : Bool) (b : List ℕ) (i : Bool) (c : List ℕ) (j : Bool) (d : List ℕ) (k : Bool) (e : List ℕ) (room : List ℕ)
-    → is_new || not (x || y) ≡ true → (sheet_wrote is_new (new_choice x v y w h b i c j d k e) room).length ≤ least_room is_new
-wrote_most is_new x v y w h b i c j d k e room only = most-wrote is_new (new_choice x v y w h b i c j d k e) room (sheet-most x v y w h b i c j d k e is_new only)
+-- what writing a choice answers: a length of at most 145
+pub wrote_most : (h : Bool) (b : List ℕ) (i : Bool) (c : List ℕ) (j : Bool) (d : List ℕ) (k : Bool) (e : List ℕ) (room : List ℕ) → (sheet_wrote (choice h b i c j d k e) room).length ≤ 145
+unfolding sheet_wrote
+wrote_most h b i c j d k e room = by-test (writable (choice h b i c j d k e) room) refl
+  where
+    by-test : (t : Bool) → writable (choice h b i c j d k e) room ≡ t → (cond t (wrote 0 (length (sheet_of old (choice h b i c j d k e)))) (wrote 12 0)).length ≤ 145
+    by-test true ok = sheet_most (choice h b i c j d k e) (choice-few h b i c j d k e) (facts (choice h b i c j d k e) room ok).0
+    by-test false bad = omega arith

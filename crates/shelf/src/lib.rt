@@ -5,7 +5,7 @@ ghost use Rattle.shelf.specs.Shelf.{report_of};
 use shelf_row::Figures;
 
 // A pack on the shelf: remaining, full and design mAh, and its cycle count.
-#[derive(Drop)]
+#[derive(Clone, Copy)]
 pub struct Row {
     pub remaining: u16,
     pub full: u16,

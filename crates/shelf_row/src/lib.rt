@@ -4,14 +4,14 @@ ghost use Rattle.shelf_row.specs.Rows.{zeros, count_answer, is_bad, row_answer, 
 ghost use Rattle.shelf_row.specs.Step.{first_given, lowest_with, figures_with, Fits};
 
 // The lowest remaining ÷ full: that row's two numbers and its place from 0.
-#[derive(Drop)]
+#[derive(Clone, Copy)]
 pub enum Lowest {
     At(u16, u16, u32),
     None,
 }
 
 // Monday's figures: how many packs, total remaining, total full, the lowest, how many are below one fifth.
-#[derive(Drop)]
+#[derive(Clone, Copy)]
 pub struct Figures {
     pub answer: u8,
     pub packs: u32,

@@ -14,7 +14,10 @@ use Rattle.capture.proofs.Check as capture
 use Rattle.capture.specs.Capture.{is_capture, count_in, place_in}
 use Rattle.capture.specs.Walk.{opened_of}
 use Rattle.capture.specs.declared.Opened.{Opened}
+use Rattle.names.proofs.Escaping.{escape_length}
+use Rattle.key.proofs.Form.{key_length}
 use Rattle.names.specs.Names.{unescaped, of_key, name_in, plain_wrote}
+use Rattle.key_writer.specs.Writing.{refused, key_wrote}
 use Rattle.rooms.proofs.Choice.{chosen}
 use Rattle.rooms.specs.declared.Wrote.{Wrote}
 use Rattle.shelf_table.specs.Table.{table_answer, table_wrote}
@@ -38,6 +41,17 @@ comparison_most a b f g =
     (λ e. omega (arith, bits_most a b f g, ltb-false 37 (length a) ((or-eq-false-eq-eq-false-and-eq-false (not (eqb (length a) (length b))) (ltb 37 (length a))).0 e).1))
 
 -- ---- lengths
+
+-- a written key's length
+pub key_most : (maker device : List ℕ) (date serial : ℕ) (room : List ℕ) → (key_wrote maker device date serial room).length ≤ 139
+unfolding key_wrote refused
+key_most maker device date serial room =
+    chosen (λ (w : Wrote). w.length ≤ 139) (refused maker device room)
+    (λ e. omega arith)
+    (λ e.
+    let r = (or-eq-false-eq-eq-false-and-eq-false (ltb 32 (length maker) || ltb 32 (length device)) (ltb (length room) 139)).0 e in
+    let n = (or-eq-false-eq-eq-false-and-eq-false (ltb 32 (length maker)) (ltb 32 (length device))).0 r.0 in
+    omega (arith, key_length maker device date serial, escape_length maker, escape_length device, ltb-false 32 (length maker) n.0, ltb-false 32 (length device) n.1))
 
 -- a plain name's length
 pub plain_most : (part room : List ℕ) → (plain_wrote (name_in part) room).length ≤ 32

@@ -17,10 +17,10 @@ use Rattle.key.specs.declared.Found.{Found}
 use Rattle.names.specs.Names.{escape}
 use Rattle.rooms.proofs.Choice.{chosen}
 use Rattle.packed.specs.Packed.{key_number, read_number, RowFits}
-use Rattle.sheets.proofs.Forms.{good_most}
-use Rattle.sheets.proofs.Names.{both, InSheet, part_in}
-use Rattle.sheets.specs.Block.{Part, of_service, of_factory, good_sheets, part_of, located_by, located_of}
-use Rattle.sheets.specs.declared.Located.{Located}
+use Rattle.sheet.proofs.Lengths.{at_most_145}
+use Rattle.sheet.proofs.Names.{both, InSheet, part_in}
+use Rattle.sheet.specs.Block.{Part, of_service, of_factory, good_sheets, part_of, located_by, located_of}
+use Rattle.sheet.specs.declared.Located.{Located}
 
 -- the places that are found in a key rise, within its longest names, escaped
 pub found_most : (k : List ℕ) {f : Found} → f ≡ found_of (read_key k) → (f.maker_end ≤ f.device_start) × (f.device_start ≤ f.device_end) × (f.device_end ≤ 129)
@@ -42,8 +42,8 @@ found_number (some p) e =
 -- a block name lies within the longest sheet
 module _ (s f : List ℕ) (tag : ℕ) where
   by_part : good_sheets s f ≡ true → (p : Part) → InSheet s f p → ((located_by p).start ≤ (located_by p).end) × ((located_by p).end < 256)
-  by_part good (of_service a e) i = (i.rises, omega (arith, i.ends, good_most s (both s f good).0))
-  by_part good (of_factory a e) i = (i.rises, omega (arith, i.ends, good_most f (both s f good).1))
+  by_part good (of_service a e) i = (i.rises, omega (arith, i.ends, at_most_145 s (both s f good).0))
+  by_part good (of_factory a e) i = (i.rises, omega (arith, i.ends, at_most_145 f (both s f good).1))
 
   pub located-most : {l : Located} → l ≡ located_of s f tag → (l.start ≤ l.end) × (l.end < 256)
   unfolding located_of

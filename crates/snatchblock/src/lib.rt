@@ -1,21 +1,19 @@
 // The pack for programs in C: include/snatchblock.h says what each function answers.
-ghost use Rattle.std.specs.Prelude.{◌≡◌, true, false};
+ghost use Rattle.std.specs.Prelude.{◌≡◌};
 ghost use Rattle.std.proofs.Math.Option.{none, some};
 ghost use Rattle.calls.specs.Calls.{start_number, start_area, sound_in, sample_number, sample_area, sample_room, transact_number, transact_area, transact_room};
 ghost use Rattle.capture.specs.Walk.{opened_of, step_at};
 ghost use Rattle.charger_calls.specs.Calls as chargers;
 ghost use Rattle.key.specs.Key as keys;
-ghost use Rattle.key_calls.specs.Calls.{key_call_number, key_call_room};
 ghost use Rattle.key_writer.specs.Writing as writing;
 ghost use Rattle.names.specs.Names as names;
 ghost use Rattle.start.specs.SetUp.{set_up_of};
 ghost use Rattle.packed.specs.Packed.{check_number, comparison_number, wrote_number, edited_number, opened_number, read_number, located_number, step_number};
 ghost use Rattle.pec.specs.Messages.{exchange_check, bit_comparison};
 ghost use Rattle.pec.specs.Pec.{pec_of};
-ghost use Rattle.sheets.specs.Block.{located_of};
-ghost use Rattle.sheet.specs.Sheet.{is_sheet, is_new_sheet};
+ghost use Rattle.sheet.specs.Block.{located_of};
+ghost use Rattle.sheet.specs.Sheet.{is_sheet};
 ghost use Rattle.sheet_edit.specs.Edit.{edit_of, room_after};
-ghost use Rattle.sheet_moves.specs.Moves.{move_wrote, move_room};
 ghost use Rattle.sheet_writer.specs.Writing as sheets;
 ghost use Rattle.shelf_table.specs.Table.{table_wrote, table_room};
 ghost use Rattle.snatchblock.specs.Given.{sample_with, setup_with, thirteen_setup_with};
@@ -100,55 +98,13 @@ pub extern "C" fn snatchblock_write_sheet(
     has23: bool,
     body23: &[u8],
 ) -> u32
-    ensures value { result ≡ wrote_number (sheets.sheet_wrote false (sheets.choice has20 body20.now has21 body21.now has22 body22.now has23 body23.now) room.old) }
-    ensures room_after { room.new ≡ sheets.sheet_room false (sheets.choice has20 body20.now has21 body21.now has22 body22.now has23 body23.now) room.old }
+    ensures value { result ≡ wrote_number (sheets.sheet_wrote (sheets.choice has20 body20.now has21 body21.now has22 body22.now has23 body23.now) room.old) }
+    ensures room_after { room.new ≡ sheets.sheet_room (sheets.choice has20 body20.now has21 body21.now has22 body22.now has23 body23.now) room.old }
 {
     let w = sheet_writer::write_sheet(
         room, has20, body20, has21, body21, has22, body22, has23, body23,
     );
     packed::wrote(w)
-}
-
-#[unsafe(no_mangle)]
-pub extern "C" fn snatchblock_write_new_sheet(
-    room: &mut [u8],
-    has1B: bool,
-    date: u16,
-    has1C: bool,
-    serial: u16,
-    has20: bool,
-    body20: &[u8],
-    has21: bool,
-    body21: &[u8],
-    has22: bool,
-    body22: &[u8],
-    has23: bool,
-    body23: &[u8],
-) -> u32
-    ensures value { result ≡ wrote_number (sheets.sheet_wrote true (sheets.new_choice has1_b date has1_c serial has20 body20.now has21 body21.now has22 body22.now has23 body23.now) room.old) }
-    ensures room_after { room.new ≡ sheets.sheet_room true (sheets.new_choice has1_b date has1_c serial has20 body20.now has21 body21.now has22 body22.now has23 body23.now) room.old }
-{
-    let w = sheet_writer::write_new_sheet(
-        room, has1B, date, has1C, serial, has20, body20, has21, body21, has22, body22, has23,
-        body23,
-    );
-    packed::wrote(w)
-}
-
-#[unsafe(no_mangle)]
-pub extern "C" fn snatchblock_sheet_to_new(bytes: &[u8], room: &mut [u8]) -> u32
-    ensures value { result ≡ wrote_number (move_wrote true bytes.now room.old) }
-    ensures room_after { room.new ≡ move_room true bytes.now room.old }
-{
-    packed::wrote(sheet_moves::to_new(bytes, room))
-}
-
-#[unsafe(no_mangle)]
-pub extern "C" fn snatchblock_sheet_to_old(bytes: &[u8], room: &mut [u8]) -> u32
-    ensures value { result ≡ wrote_number (move_wrote false bytes.now room.old) }
-    ensures room_after { room.new ≡ move_room false bytes.now room.old }
-{
-    packed::wrote(sheet_moves::to_old(bytes, room))
 }
 
 #[unsafe(no_mangle)]
@@ -175,17 +131,10 @@ pub extern "C" fn snatchblock_is_sheet(bytes: &[u8]) -> bool
 }
 
 #[unsafe(no_mangle)]
-pub extern "C" fn snatchblock_is_new_sheet(bytes: &[u8]) -> bool
-    ensures { result ≡ is_new_sheet bytes.now }
-{
-    sheets::is_sheet_of(true, bytes)
-}
-
-#[unsafe(no_mangle)]
 pub extern "C" fn snatchblock_block(service: &[u8], factory: &[u8], tag: u8) -> u64
     ensures { result ≡ located_number (located_of service.now factory.now tag) }
 {
-    packed::located(sheets::locate(service, factory, tag))
+    packed::located(sheet::locate(service, factory, tag))
 }
 
 // ---- captures
@@ -307,19 +256,6 @@ pub extern "C" fn snatchblock_transact<'a>(
     ensures room_after { room.new ≡ transact_room area.old service.now factory.now read bytes.now room.old }
 {
     calls::transact(area, service, factory, read, bytes, room)
-}
-
-#[unsafe(no_mangle)]
-pub extern "C" fn snatchblock_pack_key<'a>(
-    area: &[u8],
-    service: &'a [u8],
-    factory: &'a [u8],
-    room: &mut [u8],
-) -> u32
-    ensures value { result ≡ key_call_number area.now service.now factory.now room.old }
-    ensures room_after { room.new ≡ key_call_room area.now service.now factory.now room.old }
-{
-    key_calls::pack_key(area, service, factory, room)
 }
 
 // ---- the charger

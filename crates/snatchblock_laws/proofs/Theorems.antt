@@ -33,24 +33,19 @@ use Rattle.key_writer.specs.Writing.{refused, key_wrote}
 use Rattle.pack.specs.declared.Sample.{Sample}
 use Rattle.pack.specs.declared.State.{State}
 use Rattle.rooms.proofs.Choice.{chosen}
-use Rattle.packed.specs.Packed.{packed, wrote_number, check_number, comparison_number, opened_number, read_number, located_number, step_number}
+use Rattle.packed.specs.Packed.{packed, check_number, comparison_number, opened_number, read_number, located_number, step_number}
 use Rattle.pec.specs.declared.Checked.{Checked}
 use Rattle.pec.specs.declared.Compared.{Compared}
 use Rattle.rooms.specs.Rooms.{wrote}
-use Rattle.sheets.specs.Block.{Part, of_service, of_factory, good_sheets, part_of, located_by, located_of}
-use Rattle.sheets.specs.declared.Located.{Located}
-use Rattle.key_calls.specs.Calls.{key_call_number}
-use Rattle.pack.specs.Sound.{sound_of}
-use Rattle.pack_key.specs.PackKey.{parts_of, pack_key_wrote}
-use Rattle.rooms.specs.declared.Wrote.{Wrote}
+use Rattle.sheet.specs.Block.{Part, of_service, of_factory, good_sheets, part_of, located_by, located_of}
+use Rattle.sheet.specs.declared.Located.{Located}
 use Rattle.sheet_edit.specs.Edit.{edit_answer, edit_of}
-use Rattle.sheet_moves.specs.Moves.{move_answer, move_wrote}
 use Rattle.sheet_writer.specs.Writing.{writable, sheet_wrote}
 use Rattle.shelf_table.specs.Table.{table_answer}
 use Rattle.thirteen.specs.Transact as thirteen
 use Rattle.thirteen_area.specs.Area.{is_thirteen_area, state_in as thirteen_in}
 use Rattle.thirteen_calls.specs.Calls as thirteens
-use Rattle.snatchblock_laws.specs.Bare.{Bare, WroteBare, CheckBare, ComparisonBare, KeyBare, NameBare, ReadBare, SheetBare, MoveBare, EditBare, BlockBare, OpenedBare, StepBare, ShelfBare, SampleBare, TransactBare, PackKeyBare, ChargerSampleBare, ChargerTransactBare, ChargerCurrentBare, ThirteenSampleBare, ThirteenTransactBare}
+use Rattle.snatchblock_laws.specs.Bare.{Bare, WroteBare, CheckBare, ComparisonBare, KeyBare, NameBare, ReadBare, SheetBare, EditBare, BlockBare, OpenedBare, StepBare, ShelfBare, SampleBare, TransactBare, ChargerSampleBare, ChargerTransactBare, ChargerCurrentBare, ThirteenSampleBare, ThirteenTransactBare}
 
 -- answer 0 is no refusal
 served_bare : {n : ℕ} → Bare 0 n
@@ -83,13 +78,7 @@ read_bare key = go (read_key key)
 
 pub sheet_bare : SheetBare
 unfolding sheet_wrote
-sheet_bare is_new es room = chosen WroteBare (writable is_new es room) (λ _. served_bare) (λ _ _. omega arith)
-
-pub move_bare : MoveBare
-unfolding move_wrote
-move_bare to_new s room =
-    let n : ℕ = move_answer to_new s room in
-    chosen (λ (bytes : ℕ). WroteBare (wrote n bytes)) (eqb n 0) (λ e. rw (eqb-true n 0 e) served_bare) (λ _ _. omega arith)
+sheet_bare es room = chosen WroteBare (writable es room) (λ _. served_bare) (λ _ _. omega arith)
 
 pub edit_bare : EditBare
 unfolding edit_of
@@ -137,24 +126,6 @@ sample_bare area sample room = go (is_area area)
 
     go : (b : Bool) → Bare (cond b r.answer no_state) (cond b (packed r.answer r.length) no_state)
     go true = sampled_bare (state_in area) sample (length room)
-    go false = λ _. refl
-
--- a pack's key is the writer's, or refused before
-key_of_pack : (s : State) (service factory room : List ℕ) → WroteBare (pack_key_wrote s service factory room)
-unfolding pack_key_wrote
-key_of_pack s service factory room =
-    chosen WroteBare (not (sound_of s)) (λ _ _. omega arith)
-    (λ _. chosen WroteBare (not (good_sheets service factory)) (λ _ _. omega arith) (λ _. let p : Parts = parts_of s service factory in key_bare p.maker p.device p.date p.serial room))
-
-pub pack_key_bare : PackKeyBare
-unfolding key_call_number
-pack_key_bare area service factory room = go (is_area area)
-  where
-    r : Wrote
-    r = pack_key_wrote (state_in area) service factory room
-
-    go : (b : Bool) → Bare (cond b r.answer no_state) (cond b (wrote_number r) no_state)
-    go true = key_of_pack (state_in area) service factory room
     go false = λ _. refl
 
 -- of every side: only a served read has a reply

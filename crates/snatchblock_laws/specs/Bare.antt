@@ -2,7 +2,7 @@
 -- Assumes nothing: these are definitions.
 use Rattle.std.specs.Prelude.{Bool, false, cond, List, ◌≡◌, ℕ}
 use Rattle.std.proofs.Math.Option.{Option}
-use Rattle.area.specs.Area.{is_area, state_in, no_state}
+use Rattle.area.specs.Area.{is_area, no_state}
 use Rattle.calls.specs.Calls.{sampled, sample_number, transacted, transact_number}
 use Rattle.capture.specs.Walk.{opened_of, step_at, answer_of}
 use Rattle.charger_area.specs.Area.{is_charger_area}
@@ -15,12 +15,9 @@ use Rattle.pack.specs.declared.Sample.{Sample}
 use Rattle.packed.specs.Packed.{check_number, comparison_number, wrote_number, edited_number, opened_number, read_number, located_number, step_number}
 use Rattle.pec.specs.Messages.{exchange_check, bit_comparison}
 use Rattle.rooms.specs.declared.Wrote.{Wrote}
-use Rattle.sheets.specs.Block.{located_of}
+use Rattle.sheet.specs.Block.{located_of}
 use Rattle.sheet.specs.Sheet.{Entry}
-use Rattle.key_calls.specs.Calls.{key_call_number}
-use Rattle.pack_key.specs.PackKey.{pack_key_wrote}
 use Rattle.sheet_edit.specs.Edit.{edit_of}
-use Rattle.sheet_moves.specs.Moves.{move_wrote}
 use Rattle.sheet_writer.specs.Writing.{sheet_wrote}
 use Rattle.shelf_table.specs.Table.{table_wrote}
 use Rattle.thirteen_area.specs.Area.{is_thirteen_area}
@@ -51,10 +48,7 @@ abbrev pub ReadBare : Type 0
 ReadBare = (key : List ℕ) → Bare (read_of (read_key key)).answer (read_number (read_key key))
 
 abbrev pub SheetBare : Type 0
-SheetBare = (is_new : Bool) (es : List Entry) (room : List ℕ) → WroteBare (sheet_wrote is_new es room)
-
-abbrev pub MoveBare : Type 0
-MoveBare = (to_new : Bool) (s room : List ℕ) → WroteBare (move_wrote to_new s room)
+SheetBare = (es : List Entry) (room : List ℕ) → WroteBare (sheet_wrote es room)
 
 abbrev pub EditBare : Type 0
 EditBare = (room : List ℕ) (stated tag : ℕ) (to : Option (List ℕ)) → Bare (edit_of room stated tag to).answer (edited_number (edit_of room stated tag to))
@@ -80,11 +74,6 @@ abbrev pub TransactBare : Type 0
 TransactBare =
     (area service factory : List ℕ) (read : Bool) (bytes room : List ℕ)
     → Bare (cond (is_area area) (transacted area service factory read bytes room).answer no_state) (transact_number area service factory read bytes room)
-
-abbrev pub PackKeyBare : Type 0
-PackKeyBare =
-    (area service factory room : List ℕ)
-    → Bare (cond (is_area area) (pack_key_wrote (state_in area) service factory room).answer no_state) (key_call_number area service factory room)
 
 -- ---- the charger (set-up's number is its answer)
 

@@ -5,7 +5,7 @@ ghost use Rattle.start.specs.SetUp.{set_up_of, set_up_refused, pack_of, settings
 use pack::{Host, Latest, Pack, Run, Sample, Settings, State, Tank, Timers};
 
 // What set-up brings beside the first sample; capacities in mAh; plain: broadcasts without PEC are asked for.
-#[derive(Drop)]
+#[derive(Clone, Copy)]
 pub struct Setup {
     pub DesignCapacity: u16,
     pub full: u16,
@@ -22,7 +22,7 @@ pub struct Setup {
     pub plain: bool,
 }
 
-#[derive(Drop)]
+#[derive(Clone, Copy)]
 pub struct Started {
     pub answer: u8,
     pub state: State,

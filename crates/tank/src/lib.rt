@@ -10,7 +10,7 @@ use learning::Seen;
 use pack::{Latest, Run, Settings, Tank};
 
 // Charge and full, which a close sets together.
-#[derive(Drop)]
+#[derive(Clone, Copy)]
 struct Level {
     charge: u64,
     full: u16,

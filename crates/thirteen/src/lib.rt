@@ -14,7 +14,7 @@ use frame::Request;
 use thirteen_pack::ThirteenState;
 
 // What a transaction gives back: its answer, the state left, the number of reply bytes.
-#[derive(Drop)]
+#[derive(Clone, Copy)]
 pub struct ThirteenTransacted {
     pub answer: u8,
     pub state: ThirteenState,

@@ -22,7 +22,7 @@ const RECENT: usize = LEVEL + 11;
 pub const LENGTH: usize = RECENT + 247;
 
 // What an area holds.
-#[derive(Drop)]
+#[derive(Clone, Copy)]
 pub struct Loaded {
     pub answer: u8,
     pub state: ThirteenState,

@@ -11,7 +11,7 @@ use recent::Recent;
 use start::Setup;
 
 // What set-up fixes; the state of health in percent.
-#[derive(Drop)]
+#[derive(Clone, Copy)]
 pub struct Fixed {
     pub DesignCapacity: u16,
     pub DesignVoltage: u16,
@@ -19,7 +19,7 @@ pub struct Fixed {
 }
 
 // Charge in mA·ms, full capacity in mAh; FullyDischarged is bit 4 of BatteryStatus.
-#[derive(Drop)]
+#[derive(Clone, Copy)]
 pub struct Level {
     pub charge: u64,
     pub full: u16,
@@ -27,7 +27,7 @@ pub struct Level {
 }
 
 // All but the error code; the cells in mV.
-#[derive(Drop)]
+#[derive(Clone, Copy)]
 pub struct Thirteen {
     pub fixed: Fixed,
     pub latest: Latest,
@@ -37,19 +37,19 @@ pub struct Thirteen {
 }
 
 // The error code stands apart: transactions change nothing but it.
-#[derive(Drop)]
+#[derive(Clone, Copy)]
 pub struct ThirteenState {
     pub error: u8,
     pub pack: Thirteen,
 }
 
-#[derive(Drop)]
+#[derive(Clone, Copy)]
 pub struct ThirteenStarted {
     pub answer: u8,
     pub state: ThirteenState,
 }
 
-#[derive(Drop)]
+#[derive(Clone, Copy)]
 pub struct ThirteenSampled {
     pub answer: u8,
     pub state: ThirteenState,

@@ -9,7 +9,7 @@ use minutes::{Given, Time};
 use thirteen_pack::Thirteen;
 
 // What a word read gives: its answer, 0 or 10, and its word.
-#[derive(Drop)]
+#[derive(Clone, Copy)]
 pub struct ThirteenShown {
     pub answer: u8,
     pub word: u16,

@@ -12,8 +12,8 @@ use Rattle.commands.specs.Answers.{served}
 use Rattle.frame.specs.Transactions.{reply_of, block_body}
 use Rattle.pack.specs.declared.State.{State}
 use Rattle.rooms.specs.Rooms.{placed}
-use Rattle.sheets.proofs.Names.{block-short}
-use Rattle.sheets.specs.Block.{good_sheets, block_of, sheets_answer}
+use Rattle.sheet.proofs.Names.{block-short}
+use Rattle.sheet.specs.Block.{good_sheets, block_of, block_answer}
 use Rattle.bus.proofs.serve_block.Statement.{statement}
 use Rattle.bus.proofs.serve_block.Tie as tie
 
@@ -30,10 +30,10 @@ bad s reply room answer true e z = absurd (z e)
 bad s reply room answer false e z = (ap (λ (n : ℕ). outcome s n s.pack 0) e, refl)
 
 returns : tie.Need-returns
-unfolding sheets_answer
+unfolding block_answer
 returns c =
     let a = c.before.before.before.before.before.before.before.args in
-    let b = bad a.s (reply_of a.bytes.now (block_body (block_of a.service.now a.factory.now a.command))) a.room.now _ (good_sheets a.service.now a.factory.now) c.before.before.sheets-answer.ensures c.before.if1.true in
+    let b = bad a.s (reply_of a.bytes.now (block_body (block_of a.service.now a.factory.now a.command))) a.room.now _ (good_sheets a.service.now a.factory.now) c.before.before.block-answer.ensures c.before.if1.true in
     (c.unchanged.ensures ∙ b.0, b.1)
 
 put-block-requires : tie.Need-put-block-requires
@@ -44,12 +44,12 @@ put-block-requires c κs =
     (omega (arith, e, h), omega (arith, e, h, c.before.before.before.before.before.before.before.before.requires))
 
 returns-2 : tie.Need-returns-2
-unfolding sheets_answer
+unfolding block_answer
 returns-2 c =
     let a = c.before.before.before.before.before.before.before.before.before.before.before.before.args in
     let put = c.before.before.before.put-block.ensures in
     let name = c.before.before.before.before.before.block.ensures.0 in
-    let g = good (good_sheets a.service.now a.factory.now) c.before.before.before.before.before.before.before.sheets-answer.ensures c.before.before.before.before.before.before.if1.false in
+    let g = good (good_sheets a.service.now a.factory.now) c.before.before.before.before.before.before.before.block-answer.ensures c.before.before.before.before.before.before.if1.false in
     (simp (c.unchanged2.ensures, put.0, name, g), put.1 ∙ simp (name, g))
 
 pub serve-block-spec : {M : Type 1} → statement M

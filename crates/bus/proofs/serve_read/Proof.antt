@@ -4,10 +4,13 @@ use Prim.Native.Nat.{ℕ}
 use mathlib.Core.List.{List}
 use mathlib.Core.Path.{◌≡◌, ap, sym, ◌∙◌}
 use borrow.Author.Rules.{rules}
-use Rattle.bus.specs.Transact.{pack_side, row_given}
+use lib.ListN.{length}
+use Rattle.bus.proofs.Answers.{word_reply}
+use Rattle.bus.specs.Transact.{pack_side, outcome, row_given}
 use Rattle.commands.specs.Answers.{row_reply}
 use Rattle.commands.specs.Commands.{kind_of}
 use Rattle.commands.specs.declared.Kind.{Kind}
+use Rattle.gauge.specs.Word.{word_answer}
 use Rattle.pack.specs.declared.State.{State}
 use Rattle.rooms.specs.Rooms.{placed}
 use Rattle.bus.proofs.serve_read.Statement.{statement}
@@ -55,14 +58,16 @@ returns-5 c =
     let a = c.before.before.before.before.before.before.before.before.before.before.before.args in
     let k = sym c.before.before.before.before.before.before.row.ensures ∙ c.before.before.before.before.enum-told5.given.1 in
     let e = by_row a.s a.service.now a.factory.now a.bytes.now a.room.now a.command k in
-    (c.before.before.serve-word.ensures.0 ∙ e.0, c.before.before.serve-word.ensures.1 ∙ e.1)
+    let w = word_reply a.s a.service.now a.factory.now a.bytes.now a.command in
+    (c.before.before.serve-word.ensures.0 ∙ ap (λ (x : List ℕ). outcome a.s (word_answer a.s a.command) a.s.pack (length x)) w ∙ e.0, c.before.before.serve-word.ensures.1 ∙ ap (λ (x : List ℕ). placed x a.room.now) w ∙ e.1)
 
 returns-6 : tie.Need-returns-6
 returns-6 c =
     let a = c.before.before.before.before.before.before.before.before.before.before.before.args in
     let k = sym c.before.before.before.before.before.before.row.ensures ∙ c.before.before.before.before.enum-told6.given.1 in
     let e = by_row a.s a.service.now a.factory.now a.bytes.now a.room.now a.command k in
-    (c.before.before.serve-word2.ensures.0 ∙ e.0, c.before.before.serve-word2.ensures.1 ∙ e.1)
+    let w = word_reply a.s a.service.now a.factory.now a.bytes.now a.command in
+    (c.before.before.serve-word2.ensures.0 ∙ ap (λ (x : List ℕ). outcome a.s (word_answer a.s a.command) a.s.pack (length x)) w ∙ e.0, c.before.before.serve-word2.ensures.1 ∙ ap (λ (x : List ℕ). placed x a.room.now) w ∙ e.1)
 
 pub serve-read-spec : {M : Type 1} → statement M
 serve-read-spec =

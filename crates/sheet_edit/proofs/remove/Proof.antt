@@ -5,8 +5,8 @@ use native.Mathlib.Omega.{arith}
 use borrow.Author.Rules.{rules}
 use lib.Seq.{length-take-le}
 use Rattle.rooms.proofs.Rooms.{all_bytes}
-use Rattle.sheet_edit.proofs.Rooms.{FrontIn, front, few, count_is, some_bytes, rows_in}
-use Rattle.sheet_edit.proofs.Answers.{Passed, tag_small, passed, refused, served}
+use Rattle.sheet_edit.proofs.Rooms.{Front, front, count_is, some_bytes, rows_in}
+use Rattle.sheet_edit.proofs.Answers.{name_most, Passed, passed, refused, served}
 use Rattle.sheet_edit.proofs.Whole.{Spanned, spanned, sizes, removed-size, removed}
 use Rattle.sheet_edit.proofs.remove.Statement.{statement}
 use Rattle.sheet_edit.proofs.remove.Tie as tie
@@ -14,16 +14,16 @@ use Rattle.sheet_edit.proofs.remove.Tie as tie
 passes : (c : tie.Else1) → Passed c.before.before.before.before.args.room.now c.before.before.before.before.args.stated c.before.before.before.before.args.tag none
 passes c = passed _ _ _ _ _ c.before.refusal.ensures c.if1.false
 
-at_front : (c : tie.Else1) → FrontIn c.before.before.before.before.args.room.now c.before.before.before.before.args.stated
+at_front : (c : tie.Else1) → Front c.before.before.before.before.args.room.now c.before.before.before.before.args.stated
 at_front c = front _ _ (passes c).holds (all_bytes c.before.before.before.before.args.room.now (λ i. omega (arith, c.before.before.before.slice-known.given i)))
 
-span : (c : tie.After-span-of) → Spanned (at_front c.before.before.before.before) c.before.before.before.before.before.before.before.before.args.tag c.before.before.rows.result c.Span-of.result
-span c = spanned (at_front c.before.before.before.before) _ _ _ (c.before.before.rows.ensures.0 ∙ count_is (at_front c.before.before.before.before)) c.Span-of.ensures
+span : (c : tie.After-span-of) → Spanned (at_front c.before.before.before.before) c.before.before.before.before.before.before.before.before.args.tag c.before.before.wide.result c.Span-of.result
+span c = spanned (at_front c.before.before.before.before) _ _ _ (c.before.before.wide.ensures.0 ∙ count_is (at_front c.before.before.before.before)) c.Span-of.ensures
 
 returns : tie.Need-returns
 returns c = refused _ _ _ _ _ c.before.refusal.ensures c.if1.true
 
-first : tie.Need-slice-read-rows
+first : tie.Need-slice-read-wide
 first c = some_bytes (at_front c.before)
 
 inside : tie.Need-slice-reshare-prefix-span-of
@@ -35,7 +35,7 @@ part c = sym (length-take-le _ _ (at_front c.before.before.before).reach)
 span-of-requires : tie.Need-span-of-requires
 span-of-requires c κs =
     let F = at_front c.before.before.before in
-    omega (arith, rows_in F, few F, c.before.rows.ensures.0, count_is F, tag_small _ _ _ _ (passes c.before.before.before))
+    omega (arith, rows_in F, F.few, c.before.wide.ensures.0, count_is F, name_most c.before.before.before.before.before.before.before.args.tag (passes c.before.before.before).name)
 
 sub-rows-size : tie.Need-overflow-sub-rows-size
 sub-rows-size c = (sizes _ _ (span c.before)).up
@@ -55,7 +55,7 @@ sub-length-3 c = let z = sizes _ _ (span c.before.before.before) in omega (arith
 take-out-requires : tie.Need-take-out-requires
 take-out-requires c κs =
     let z = sizes _ _ (span c.before.before.before.before) in
-    omega (arith, z.after, z.rises, z.ends, z.reach, z.up, z.inside, z.few, c.before.before.before.before.before.before.rows.ensures.0)
+    omega (arith, z.after, z.rises, z.ends, z.reach, z.up, z.inside, z.few, c.before.before.before.before.before.before.wide.ensures.0)
 
 returns-2 : tie.Need-returns-2
 returns-2 c =

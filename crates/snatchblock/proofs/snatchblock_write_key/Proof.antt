@@ -4,7 +4,7 @@ use borrow.Author.Rules.{rules}
 use native.Mathlib.Omega.{arith}
 use mathlib.Core.Path.{ap}
 use Rattle.rooms.specs.declared.Wrote.{Wrote}
-use Rattle.key_writer.proofs.Writing.{key_most}
+use Rattle.snatchblock.proofs.Bounds.{key_most}
 use Rattle.snatchblock.proofs.snatchblock_write_key.Statement.{statement}
 use Rattle.snatchblock.proofs.snatchblock_write_key.Tie as tie
 

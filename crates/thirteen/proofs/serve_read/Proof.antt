@@ -29,17 +29,17 @@ by_row s bytes room command k = (
 )
 
 -- a word's reply is its row's
-word-reply : (s : ThirteenState) (bytes : List ℕ) (command : ℕ)
+word_reply : (s : ThirteenState) (bytes : List ℕ) (command : ℕ)
     → reply_of bytes (word_body (word_of s.pack command)) ≡ row_reply (thirteen_side s) bytes command ReadOnly
-word-reply s bytes command = served_reply (zero_or_ten (given_of s.pack command)) (reply_of bytes (word_body (word_of s.pack command)))
+word_reply s bytes command = served_reply (zero_or_ten (given_of s.pack command)) (reply_of bytes (word_body (word_of s.pack command)))
 
 -- what a word read is given, with the room
 word-given : (s : ThirteenState) (bytes room : List ℕ) (command : ℕ)
     → (outcome s (word_answer s.pack command) (length (reply_of bytes (word_body (word_of s.pack command)))) ≡ row_given s bytes command ReadOnly)
     × (placed (reply_of bytes (word_body (word_of s.pack command))) room ≡ placed (row_reply (thirteen_side s) bytes command ReadOnly) room)
 word-given s bytes room command = (
-  ap (λ (x : List ℕ). outcome s (word_answer s.pack command) (length x)) (word-reply s bytes command),
-  ap (λ (x : List ℕ). placed x room) (word-reply s bytes command),
+  ap (λ (x : List ℕ). outcome s (word_answer s.pack command) (length x)) (word_reply s bytes command),
+  ap (λ (x : List ℕ). placed x room) (word_reply s bytes command),
 )
 
 returns : tie.Need-returns

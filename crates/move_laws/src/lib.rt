@@ -1,1 +1,0 @@
-// Laws of moves between the forms of sheets; no code.

@@ -1,1 +1,0 @@
-// Laws of a pack's key; no code.

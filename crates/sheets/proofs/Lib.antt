@@ -1,3 +1,0 @@
-pub mod Forms
-pub mod Names
-pub mod Words

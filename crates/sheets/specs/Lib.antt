@@ -1,2 +1,0 @@
-pub mod Block
-pub mod Words
