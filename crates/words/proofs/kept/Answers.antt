@@ -11,8 +11,7 @@ use lib.Signed.{lt_z, non_neg}
 use mir.Syntax.{w16, w32}
 use mir.Val.{Fits, SFits, to_z, of_z}
 use mir.Facts.{to_z-of_z, to_z_pos, sfits_widen}
-use Rattle.words.proofs.kept.Statement.{statement}
-use Rattle.words.proofs.kept.Tie as tie
+use Rattle.words.proofs.kept.Goals as goal
 
 -- what the 32-bit copy of i reads as, and what it reads as 65,536 further up
 abbrev wide : ℤ → ℤ
@@ -22,7 +21,7 @@ abbrev more : ℤ → ℤ
 more z = to_z w32 (of_z w32 (z +ℤ pos 65536))
 
 deep : (z : ℤ) → SFits w16 z → wide z ≡ z
-deep z h = ap (λ y. to_z w32 (of_z w32 y)) (to_z-of_z h) ∙ to_z-of_z (sfits_widen tt h)
+deep z h = ap (λ y. to_z w32 (of_z w32 y)) (to_z-of_z h) ∙ to_z-of_z {w = w32} (sfits_widen {w = w16} {w' = w32} {z = z} (tt {0}) h)
 
 sum : (n : ℕ) → SFits w16 (negsuc n) → negsuc n +ℤ pos 65536 ≡ pos (65536 - suc n)
 sum n h = simp (le-ltb 65536 (suc n) (omega (arith, h.sfits)))
@@ -57,33 +56,30 @@ module _ (z : ℤ) (h : SFits w16 z) (b : Bool) (t : lt_z (wide z) (pos 0) ≡ b
   test : lt_z z (pos 0) ≡ b
   test = subst (λ (y : ℤ). lt_z y (pos 0) ≡ b) (deep z h) t
 
-cast-w : tie.Need-overflow-cast-w
-cast-w c = subst⁻¹ (SFits w32) (to_z-of_z c.ranges.i) (sfits_widen tt c.ranges.i)
+pub overflow_cast-w : goal.overflow_cast-w
+overflow_cast-w c = subst⁻¹ (SFits w32) (to_z-of_z c.ranges.i) (sfits_widen tt c.ranges.i)
 
-add-result : tie.Need-overflow-add-result
-add-result c =
-    let i = c.before.args.i in let h = c.before.ranges.i in
-    subst⁻¹ (λ (y : ℤ). SFits w32 (y +ℤ pos 65536)) (deep i h) (sum_fits i h (test i h true c.if1.true))
+pub overflow_add-result : goal.overflow_add-result
+overflow_add-result c =
+    let i = c.args.i in let h = c.ranges.i in
+    subst⁻¹ (λ (y : ℤ). SFits w32 (y +ℤ pos 65536)) (deep i h) (sum_fits i h (test i h true c.if-w-lt0.true))
 
-cast-result : tie.Need-overflow-cast-result
-cast-result c =
-    let i = c.before.args.i in let h = c.before.ranges.i in
-    subst⁻¹ (λ (y : ℤ). Casts (more y)) (deep i h) (below-casts i h (test i h true c.if1.true))
+pub overflow_cast-result : goal.overflow_cast-result
+overflow_cast-result c =
+    let i = c.args.i in let h = c.ranges.i in
+    subst⁻¹ (λ (y : ℤ). Casts (more y)) (deep i h) (below-casts i h (test i h true c.if-w-lt0.true))
 
-cast-result-2 : tie.Need-overflow-cast-result-2
-cast-result-2 c =
-    let i = c.before.args.i in let h = c.before.ranges.i in
-    subst⁻¹ Casts (deep i h) (above-casts i h (test i h false c.if1.false))
+pub overflow_cast-result-else-w-lt0 : goal.overflow_cast-result-else-w-lt0
+overflow_cast-result-else-w-lt0 c =
+    let i = c.args.i in let h = c.ranges.i in
+    subst⁻¹ Casts (deep i h) (above-casts i h (test i h false c.if-w-lt0.false))
 
-returns : tie.Need-returns
-returns c =
-    let i = c.before.args.i in let h = c.before.ranges.i in
-    ap (λ (y : ℤ). nat_abs (more y)) (deep i h) ∙ below_is i h (test i h true c.if1.true)
+pub returns-then-w-lt0 : goal.returns-then-w-lt0
+returns-then-w-lt0 c =
+    let i = c.args.i in let h = c.ranges.i in
+    ap (λ (y : ℤ). nat_abs (more y)) (deep i h) ∙ below_is i h (test i h true c.if-w-lt0.true)
 
-returns-2 : tie.Need-returns-2
-returns-2 c =
-    let i = c.before.args.i in let h = c.before.ranges.i in
-    ap nat_abs (deep i h) ∙ above_is i (test i h false c.if1.false)
-
-pub kept-spec : {M : Type 1} → statement M
-kept-spec = tie.close (tie.spec cast-w add-result cast-result cast-result-2 returns returns-2)
+pub returns-else-w-lt0 : goal.returns-else-w-lt0
+returns-else-w-lt0 c =
+    let i = c.args.i in let h = c.ranges.i in
+    ap nat_abs (deep i h) ∙ above_is i (test i h false c.if-w-lt0.false)
