@@ -2,7 +2,7 @@ use mathlib.Core.Path.{ap}
 use Prim.Native.Nat.{ℕ}
 use native.Mathlib.Omega.{arith}
 use Rattle.rooms.specs.Rooms.{further}
-use Rattle.key.proofs.Keys.{Names, names_found}
+use Rattle.key.proofs.Keys.{names_found}
 use Rattle.key.proofs.device_part.Goals as goal
 
 pub slice_bounds-result-start : goal.slice_bounds-result-start

@@ -1,5 +1,4 @@
 use Rattle.key.proofs.Words.{between}
-use borrow.Author.Rules.{rules}
 use native.Mathlib.Omega.{arith}
 use Rattle.key.proofs.digit_value.Goals as goal
 

@@ -3,7 +3,6 @@ use lib.ListN.{drop}
 use Rattle.names.proofs.Strokes.{named, unnamed}
 use Rattle.key.proofs.Keys.{no_maker, no_device, no_words, is_found}
 use Rattle.key.proofs.Words.{words_end, word_below, serial_below, tail_of}
-use borrow.Author.Rules.{rules}
 use native.Mathlib.Omega.{arith}
 use mathlib.Core.Path.{◌∙◌, sym}
 use Rattle.key.proofs.find.Goals as goal

@@ -1,5 +1,4 @@
 use Rattle.key.proofs.Words.{is-word-at}
-use borrow.Author.Rules.{rules}
 use Rattle.key.proofs.is_word.Goals as goal
 
 pub returns : goal.returns

@@ -1,5 +1,4 @@
 use Rattle.key.proofs.Words.{not_words, words_at}
-use borrow.Author.Rules.{rules}
 use native.Mathlib.Omega.{arith}
 use Rattle.key.proofs.is_words.Goals as goal
 

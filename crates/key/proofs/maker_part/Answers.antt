@@ -2,9 +2,7 @@ use mathlib.Core.Path.{ap}
 use Prim.Native.Nat.{ℕ}
 use native.Mathlib.Nat.{zero-add}
 use native.Mathlib.Omega.{arith}
-use borrow.Author.Rules.{rules}
-use Rattle.key.specs.Key.{read_key}
-use Rattle.key.proofs.Keys.{Names, names_found}
+use Rattle.key.proofs.Keys.{names_found}
 use Rattle.key.proofs.maker_part.Goals as goal
 
 pub returns : goal.returns

@@ -1,6 +1,5 @@
 use Rattle.key.specs.Key.{read_key}
 use Rattle.key.proofs.Keys.{read_found}
-use borrow.Author.Rules.{rules}
 use Rattle.key.proofs.read_key.Goals as goal
 
 pub returns : goal.returns

@@ -1,5 +1,4 @@
 use Rattle.key.proofs.Words.{word_at}
-use borrow.Author.Rules.{rules}
 use Rattle.key.proofs.word.Goals as goal
 
 pub returns : goal.returns

@@ -1,6 +1,5 @@
 use lib.ListN.{length-set}
 use native.Mathlib.Numerals.{add-one}
-use borrow.Author.Rules.{rules}
 use native.Mathlib.Omega.{arith}
 use mathlib.Core.Path.{◌∙◌, sym}
 use Rattle.key_writer.proofs.put_byte.Goals as goal

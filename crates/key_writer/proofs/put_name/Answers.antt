@@ -1,9 +1,7 @@
 use mathlib.Core.Path.{◌≡◌, refl, ◌∙◌}
-use Prim.Native.Nat.{◌≤◌, ◌+◌, ◌-◌}
 use native.Mathlib.Omega.{arith}
-use lib.ListN.{length, take}
-use lib.Seq.{sets, take_all}
-use Rattle.names.specs.Names.{escape}
+use lib.ListN.{take}
+use lib.Seq.{take_all}
 use Rattle.names.proofs.Escaping.{escape_length}
 use Rattle.key_writer.proofs.Writing.{turn, escape_length_take}
 use Rattle.key_writer.proofs.put_name.Goals as goal

@@ -1,11 +1,8 @@
-use mathlib.Core.Path.{◌≡◌, refl, ◌∙◌}
+use mathlib.Core.Path.{◌≡◌}
 use Prim.Native.Nat.{◌≤◌, ◌+◌, ◌-◌}
-use native.Mathlib.Omega.{arith}
 use lib.ListN.{length, take}
-use lib.Seq.{sets, take_all}
+use lib.Seq.{sets}
 use Rattle.names.specs.Names.{escape}
-use Rattle.names.proofs.Escaping.{escape_length}
-use Rattle.key_writer.proofs.Writing.{turn, escape_length_take}
 use Rattle.key_writer.proofs.put_name.Given as goal
 
 abbrev pub invariant-loop-j : goal.invariant-loop-j

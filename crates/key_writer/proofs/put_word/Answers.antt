@@ -1,7 +1,6 @@
 use native.Mathlib.Omega.{arith}
 use lib.ListN.{length-set}
 use Rattle.key_writer.proofs.Writing.{word_laid}
-use borrow.Author.Rules.{rules}
 use Rattle.key_writer.proofs.put_word.Goals as goal
 
 pub bounds-room-at-2 : goal.bounds-room-at-2

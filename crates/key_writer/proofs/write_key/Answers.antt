@@ -1,6 +1,5 @@
-use mathlib.Core.Path.{◌≡◌, ◌∙◌}
 use native.Mathlib.Omega.{arith}
-use lib.ListN.{length, length-set}
+use lib.ListN.{length-set}
 use Rattle.key_writer.proofs.Writing.{key_laid, key-wrote, key_not, not_maker, not_device, not_room}
 use Rattle.key_writer.proofs.write_key.Goals as goal
 
@@ -31,6 +30,6 @@ returns c =
     let pn2 = c.put_name-b.ensures in
     let a = c.args in
     let p = key-wrote a.room.now a.maker.now a.device.now a.date a.serial c.if-maker-gt32.false c.if-device-gt32.false c.if-room-lt139.false
-      (omega (arith, pn.value, pn2.value))
-      (key_laid a.room.now a.maker.now a.device.now a.date a.serial pn.value pn.room_after pn2.value pn2.room_after c.put_word.ensures c.put_word-2.ensures) in
+    (omega (arith, pn.value, pn2.value))
+    (key_laid a.room.now a.maker.now a.device.now a.date a.serial pn.value pn.room_after pn2.value pn2.room_after c.put_word.ensures c.put_word-2.ensures) in
     record { value = p.0; room_after = p.1 }

@@ -1,7 +1,6 @@
-use Prim.Native.Nat.{ℕ, ◌+◌, ◌-◌, ◌≤◌}
+use Prim.Native.Nat.{ℕ, ◌+◌, ◌≤◌}
 use lib.ListN.{length, take, get_or, length-set}
-use lib.Seq.{sets, take_all}
-use Rattle.names.specs.Names.{escape}
+use lib.Seq.{take_all}
 use Rattle.names.specs.Steps.{plain_of}
 use Rattle.names.proofs.Unescaping.{turn, plain_laid}
 use native.Mathlib.Omega.{arith}

@@ -1,11 +1,9 @@
-use Prim.Native.Nat.{ℕ, ◌+◌, ◌-◌, ◌≤◌}
-use lib.ListN.{length, take, get_or, length-set}
-use lib.Seq.{sets, take_all}
+use Prim.Native.Nat.{◌-◌, ◌≤◌}
+use lib.ListN.{length, take}
+use lib.Seq.{sets}
 use Rattle.names.specs.Names.{escape}
 use Rattle.names.specs.Steps.{plain_of}
-use Rattle.names.proofs.Unescaping.{turn, plain_laid}
-use native.Mathlib.Omega.{arith}
-use mathlib.Core.Path.{◌≡◌, refl, ap, ◌∙◌}
+use mathlib.Core.Path.{◌≡◌}
 use Rattle.names.proofs.put_plain.Given as goal
 
 abbrev pub invariant-loop-o : goal.invariant-loop-o

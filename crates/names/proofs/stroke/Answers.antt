@@ -1,4 +1,3 @@
-use borrow.Author.Rules.{rules}
 use native.Mathlib.Omega.{arith}
 use Rattle.names.proofs.Strokes.{stroke-none, stroke-at}
 use Rattle.names.proofs.stroke.Goals as goal
