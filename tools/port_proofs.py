@@ -229,6 +229,9 @@ def rewrite(body, chain, said, what, fn, at_places=None):
         if names and clause and int(clause[1]) < len(names):
             out.append(".ensures." + names[int(clause[1])])
             at += clause.end()
+        if new == step[1] and re.match(r"(core|std)::", place[3] or "") and re.match(r"\.ensures(?!\.[a-z])", text[at:]):
+            out.append(".ensures.value")
+            at += len(".ensures")
         clause = re.match(r"\.(\d+)", text[at:])
         if new == "requires" and fn.own.get("requires") and clause and int(clause[1]) < len(fn.own["requires"]):
             out.append("." + fn.own["requires"][int(clause[1])])

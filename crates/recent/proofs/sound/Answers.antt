@@ -4,8 +4,7 @@ use Rattle.std.proofs.Common.{◌≡◌, ◌<◌, ◌≤◌, false, ◌&&◌, ta
 use borrow.Author.Tests.{lt-leb}
 use Rattle.recent.specs.Recent.{recent_sound, total_sound, totals_sound}
 use Rattle.recent.specs.declared.Recent.{Recent}
-use Rattle.recent.proofs.sound.Statement.{statement}
-use Rattle.recent.proofs.sound.Tie as tie
+use Rattle.recent.proofs.sound.Goals as goal
 
 many : (r : Recent) → 60 < r.count → false ≡ recent_sound r
 unfolding recent_sound
@@ -20,16 +19,12 @@ rest : (r : Recent) → r.count ≤ 60 → r.begun < 1000
 unfolding recent_sound
 rest r h k = rw (le-leb _ _ h, lt-ltb _ _ k)
 
-returns : tie.Need-returns
-returns c = many _ c.if1.true
+pub returns-then-r-gt60 : goal.returns-then-r-gt60
+returns-then-r-gt60 c = many _ c.if-r-gt60.true
 
-returns-2 : tie.Need-returns-2
-returns-2 c = long _ c.before.before.if1.false c.if2.true
+pub returns-then-r-ge1000 : goal.returns-then-r-ge1000
+returns-then-r-ge1000 c = long _ c.if-r-gt60.false c.if-r-ge1000.true
 
-returns-3 : tie.Need-returns-3
-returns-3 c =
-    let k = c.before.before.before in
-    ap₂ ◌&&◌ c.before.totals-sound.ensures c.total-sound.ensures ∙ rest _ k.before.before.if1.false k.if2.false
-
-pub sound-spec : {M : Type 1} → statement M
-sound-spec = tie.close (tie.spec returns returns-2 (λ c κs. search rules) (λ c κs. search rules) returns-3)
+pub returns : goal.returns
+returns c =
+    ap₂ ◌&&◌ c.totals_sound.ensures c.total_sound.ensures ∙ rest _ c.if-r-gt60.false c.if-r-ge1000.false
