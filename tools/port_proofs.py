@@ -137,7 +137,7 @@ class Function:
 
     def need(self, name):
         for old, new, place in self.needs:
-            if old == norm(name):
+            if old in (norm(name), norm(name).replace("slice-bounds-", "part-")):
                 return new, place
         for old, new, place in self.needs:
             if norm(new) == norm(name):
@@ -229,12 +229,32 @@ def rewrite(body, chain, said, what, fn, at_places=None):
         if names and clause and int(clause[1]) < len(names):
             out.append(".ensures." + names[int(clause[1])])
             at += clause.end()
+        if new == step[1] and re.match(r"(core|std)::", place[3] or "") and re.match(r"\.ensures(?!\.[a-z])", text[at:]):
+            out.append(".ensures.value")
+            at += len(".ensures")
         clause = re.match(r"\.(\d+)", text[at:])
         if new == "requires" and fn.own.get("requires") and clause and int(clause[1]) < len(fn.own["requires"]):
             out.append("." + fn.own["requires"][int(clause[1])])
             at += clause.end()
     text = "".join(out + [text[at:]])
-    return re.sub("\x00(.*?)\x00", lambda m: at_places[m[1]], text)
+    text = re.sub("\x00(.*?)\x00", lambda m: at_places[m[1]], text)
+    # a step's clauses by name, where the step has a name of its own here
+    callees = {it[2][1]: it[3] for it in fn.of["places"] if it[3]}
+    for it in re.finditer(r"\blet (" + NAME + r") = c\.([^\s.]+)\.ensures in\b", text):
+        names = fn.clauses.get(callees.get(it[2]) or "", {}).get("ensures")
+        for k, name in enumerate(names or []):
+            text = re.sub(r"(?<![^\s(){};,\[\]])" + re.escape(it[1]) + r"\." + str(k) + r"(?!\d)", it[1] + "." + name, text)
+    for it in re.finditer(r"\blet (" + NAME + r") = c\.([^\s.]+) in\b", text):
+        names = fn.clauses.get(callees.get(it[2]) or "", {}).get("ensures")
+        for k, name in enumerate(names or []):
+            text = re.sub(r"(?<![^\s(){};,\[\]])" + re.escape(it[1]) + r"\.ensures\." + str(k) + r"(?!\d)", it[1] + ".ensures." + name, text)
+    # an array's own name
+    for old, new in fn.of["args"]:
+        m = re.fullmatch(r"\.args \.(\S+)", old)
+        if m:
+            text = re.sub(r"\." + re.escape(m[1]) + r"(?![\w-])", "." + new.split(" .")[-1], text)
+    # a test of `!x` says what x is
+    return re.sub(r"\bnot-(?:true|false) _ (c\.if-not-[^\s(){};,]*\.(?:true|false))", r"\1", text)
 
 
 def substitute(text, by):
