@@ -182,8 +182,6 @@ def rewrite(body, chain, said, what, fn, at_places=None):
     """The paths into `c` as today's context has them, let-bound contexts followed."""
     depth = {"c": 0}
     text = body
-    for name, inner in (at_places or {}).items():
-        text = re.sub(r"(?<![^\s(){};,\[\]])" + re.escape(name) + r" c(?:\.before)*(?![^\s(){};,\[\]])", lambda m: "\x00" + name + "\x00", text)
     # let k = c.before.before in
     while True:
         m = re.search(r"\blet (" + NAME + r") = (" + "|".join(re.escape(it) for it in depth) + r")((?:\.before)+|) in\s+", text)
@@ -196,7 +194,8 @@ def rewrite(body, chain, said, what, fn, at_places=None):
     for m in pattern.finditer(text):
         n = depth[m[1]] + m[2].count(".before")
         if m[3] is None:
-            if n or m[1] != "c":
+            lead = re.search(r"(?<![^\s(){};,\[\]])(" + NAME + r") $", text[: m.start()])
+            if (n or m[1] != "c") and not (lead and at_places and lead[1] in at_places):
                 said.append(f"{what}: the context {m[0]} as a whole")
             out += [text[at: m.start()], "c"]
             at = m.end()
@@ -237,7 +236,8 @@ def rewrite(body, chain, said, what, fn, at_places=None):
             out.append("." + fn.own["requires"][int(clause[1])])
             at += clause.end()
     text = "".join(out + [text[at:]])
-    text = re.sub("\x00(.*?)\x00", lambda m: at_places[m[1]], text)
+    for name, inner in (at_places or {}).items():
+        text = re.sub(r"(?<![^\s(){};,\[\]])" + re.escape(name) + r" c(?: κs)?(?![^\s(){};,\[\]])", lambda m: inner, text)
     # a step's clauses by name, where the step has a name of its own here
     callees = {it[2][1]: it[3] for it in fn.of["places"] if it[3]}
     for it in re.finditer(r"\blet (" + NAME + r") = c\.([^\s.]+)\.ensures in\b", text):
@@ -367,6 +367,8 @@ def turn(path, crate, function, of, clauses):
                 said.append(f"{path}: {name}: takes {params}")
             out = shaped(new, rewrite(body, fn.chain(place), said, f"{path}: {new}", fn, at_places))
             answers[new] = (comments, unfolding, params[:1] or ["c"], lead + out, body)
+            if not unfolding:
+                at_places[name] = "(" + out.strip() + ")"
         else:
             loop = re.match(r"(invariant|decreases)-(.+)$", m[2])
             rows = [it for it in fn.loops if loop and norm(it[0][0]) == norm(loop[2])]
@@ -404,7 +406,7 @@ def turn(path, crate, function, of, clauses):
                 said.append(f"{path}: {len(run)} in place for {[it[1] for it in needs]}: {[it for it in run if not TRIVIAL.fullmatch(re.sub(r'^.λ [^.]*[.] ?|.$', '', it))]}")
                 continue
             for arg, (old, new, place) in zip(run, needs):
-                lam = re.match(r"\(λ (\S+)((?: \S+)*?)\. ?(.*)\)$", arg, re.S)
+                lam = re.match(r"\(λ ([^\s.]+)((?: [^\s.]+)*)\. ?(.*)\)$", arg, re.S)
                 if not lam or TRIVIAL.fullmatch(lam[3].strip()) or len(run) != len(needs):
                     continue
                 body = lam[3]
