@@ -19,7 +19,7 @@ put_bytes-requires c = simp length-set (omega arith)
 pub bounds-room-last : goal.bounds-room-last
 bounds-room-last c =
     let it : c.put_bytes.new.room ≡ sets c.args.room.now 0 (block_body c.args.text.now) = c.put_bytes.ensures in
-    simp (it, length-sets) (omega arith)
+    omega (arith, ap (λ (l : List ℕ). length l) it, length-sets c.args.room.now 0 (block_body c.args.text.now))
 
 pub shape_of-room : goal.shape_of-room
 shape_of-room c = length-set c.put_bytes.new.room _ _ ∙ ap (λ (l : List ℕ). length l) ((c.put_bytes.ensures)) ∙ length-sets ((c.args.room.now)) 0 (block_body ((c.args.text.now)))
