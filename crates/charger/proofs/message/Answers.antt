@@ -11,8 +11,7 @@ use lib.ListN.{length, take, drop}
 use Rattle.charger.specs.Delivered.{is_message, message_at, message_place}
 use Rattle.frame.specs.Broadcasts.{message_size}
 use Rattle.rooms.specs.Rooms.{further}
-use Rattle.charger.proofs.message.Statement.{statement}
-use Rattle.charger.proofs.message.Tie as tie
+use Rattle.charger.proofs.message.Goals as goal
 
 module _ (plain : Bool) (bytes : List ℕ) (at : ℕ) (first : ℕ × ℕ) {size : ℕ} (is : size ≡ message_size plain) where
   none : length bytes < at + size → ([] ≡ message_at plain bytes at) × (further 0 first ≡ message_place plain bytes at first)
@@ -26,36 +25,20 @@ module _ (plain : Bool) (bytes : List ℕ) (at : ℕ) (first : ℕ × ℕ) {size
       let n : at + size - at ≡ message_size plain = omega (arith, is) in
       (ap (λ (k : ℕ). take k (drop at bytes)) n ∙ simp e, simp e)
 
-returns : tie.Need-returns
+pub returns-then-n-size : goal.returns-then-n-size
+returns-then-n-size c =
+    let a = c.args in
+    let it = none a.plain a.broadcast.now a.at a.broadcast.ref_ptr c.message_size-size.ensures (omega (arith, c.if-n-size.true)) in
+    record { result_value = it.0; ref_ptr_value = it.1 }
+
+pub returns-then-n-size-2 : goal.returns-then-n-size-2
+returns-then-n-size-2 c =
+    let a = c.args in
+    let it = none a.plain a.broadcast.now a.at a.broadcast.ref_ptr c.message_size-size.ensures (omega (arith, c.if-n-size-2.true, c.if-n-size.false)) in
+    record { result_value = it.0; ref_ptr_value = it.1 }
+
+pub returns : goal.returns
 returns c =
-    let a = c.before.before.before.before.args in
-    none a.plain a.broadcast.now a.at a.broadcast.ref_ptr c.before.before.message-size.ensures (omega (arith, c.before.if1.true))
-
-returns-2 : tie.Need-returns-2
-returns-2 c =
-    let a = c.before.before.before.before.before.args in
-    none a.plain a.broadcast.now a.at a.broadcast.ref_ptr c.before.before.before.message-size.ensures (omega (arith, c.before.if2.true, c.before.before.if1.false))
-
-returns-3 : tie.Need-returns-3
-returns-3 c =
-    let a = c.before.before.before.before.before.args in
-    whole a.plain a.broadcast.now a.at a.broadcast.ref_ptr c.before.before.before.message-size.ensures (omega (arith, c.before.if2.false, c.before.before.if1.false))
-
-pub message-spec : {M : Type 1} → statement M
-message-spec =
-    tie.close
-    (tie.spec
-    (λ c κs. search rules)
-    (λ c. search rules)
-    (λ c. search rules)
-    (λ c. search rules)
-    returns
-    (λ c. search rules)
-    (λ c. search rules)
-    (λ c. search rules)
-    returns-2
-    (λ c. search rules)
-    (λ c. search rules)
-    (λ c. search rules)
-    (λ c. search rules)
-    returns-3)
+    let a = c.args in
+    let it = whole a.plain a.broadcast.now a.at a.broadcast.ref_ptr c.message_size-size.ensures (omega (arith, c.if-n-size-2.false, c.if-n-size.false)) in
+    record { result_value = it.0; ref_ptr_value = it.1 }
