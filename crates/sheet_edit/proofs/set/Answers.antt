@@ -18,58 +18,58 @@ returns-then-answer-ne0 c =
     record { value = r.0; room_after = r.1 }
 
 pub bounds-room-0 : goal.bounds-room-0
-bounds-room-0 c = some_bytes (at_front c.args.room.now c.args.stated c.args.tag (some c.args.body.now) c.refusal-answer.ensures c.if-answer-ne0.false (λ i. omega (arith, c.slice_known-1.given i)))
+bounds-room-0 c = some_bytes (at_front c.args.room.now c.args.stated c.args.tag (some c.args.body.now) c.refusal-answer.ensures c.if-answer-ne0.false (λ i. grind arith))
 
 pub slice_bounds-span_of-end : goal.slice_bounds-span_of-end
-slice_bounds-span_of-end c = (at_front c.args.room.now c.args.stated c.args.tag (some c.args.body.now) c.refusal-answer.ensures c.if-answer-ne0.false (λ i. omega (arith, c.slice_known-1.given i))).reach
+slice_bounds-span_of-end c = (at_front c.args.room.now c.args.stated c.args.tag (some c.args.body.now) c.refusal-answer.ensures c.if-answer-ne0.false (λ i. grind arith)).reach
 
 pub slice_bounds-span_of-end-2 : goal.slice_bounds-span_of-end-2
-slice_bounds-span_of-end-2 c = sym (length-take-le _ _ (at_front c.args.room.now c.args.stated c.args.tag (some c.args.body.now) c.refusal-answer.ensures c.if-answer-ne0.false (λ i. omega (arith, c.slice_known-1.given i))).reach)
+slice_bounds-span_of-end-2 c = sym (length-take-le _ _ (at_front c.args.room.now c.args.stated c.args.tag (some c.args.body.now) c.refusal-answer.ensures c.if-answer-ne0.false (λ i. grind arith)).reach)
 
 pub span_of-span-requires : goal.span_of-span-requires
-span_of-span-requires c = searched c.args.room.now c.args.stated c.args.tag (some c.args.body.now) c.refusal-answer.ensures c.if-answer-ne0.false (λ i. omega (arith, c.slice_known-1.given i)) c.wide-n.ensures.0
+span_of-span-requires c = searched c.args.room.now c.args.stated c.args.tag (some c.args.body.now) c.refusal-answer.ensures c.if-answer-ne0.false (λ i. grind arith) c.wide-n.ensures.0
 
 pub overflow_sub-rows : goal.overflow_sub-rows
-overflow_sub-rows c = (numbers c.args.room.now c.args.stated c.args.tag (some c.args.body.now) c.refusal-answer.ensures c.if-answer-ne0.false (λ i. omega (arith, c.slice_known-1.given i)) c.wide-n.ensures.0 c.span_of-span.ensures).up
+overflow_sub-rows c = (numbers c.args.room.now c.args.stated c.args.tag (some c.args.body.now) c.refusal-answer.ensures c.if-answer-ne0.false (λ i. grind arith) c.wide-n.ensures.0 c.span_of-span.ensures).up
 
 pub rows_size-freed-requires : goal.rows_size-freed-requires
 rows_size-freed-requires c =
-    let z = numbers c.args.room.now c.args.stated c.args.tag (some c.args.body.now) c.refusal-answer.ensures c.if-answer-ne0.false (λ i. omega (arith, c.slice_known-1.given i)) c.wide-n.ensures.0 c.span_of-span.ensures in
+    let z = numbers c.args.room.now c.args.stated c.args.tag (some c.args.body.now) c.refusal-answer.ensures c.if-answer-ne0.false (λ i. grind arith) c.wide-n.ensures.0 c.span_of-span.ensures in
     omega (arith, z.inside, z.few)
 
 pub overflow_sub-left : goal.overflow_sub-left
-overflow_sub-left c = (numbers c.args.room.now c.args.stated c.args.tag (some c.args.body.now) c.refusal-answer.ensures c.if-answer-ne0.false (λ i. omega (arith, c.slice_known-1.given i)) c.wide-n.ensures.0 c.span_of-span.ensures).rises
+overflow_sub-left c = (numbers c.args.room.now c.args.stated c.args.tag (some c.args.body.now) c.refusal-answer.ensures c.if-answer-ne0.false (λ i. grind arith) c.wide-n.ensures.0 c.span_of-span.ensures).rises
 
 pub overflow_sub-left-2 : goal.overflow_sub-left-2
 overflow_sub-left-2 c =
-    let z = numbers c.args.room.now c.args.stated c.args.tag (some c.args.body.now) c.refusal-answer.ensures c.if-answer-ne0.false (λ i. omega (arith, c.slice_known-1.given i)) c.wide-n.ensures.0 c.span_of-span.ensures in
+    let z = numbers c.args.room.now c.args.stated c.args.tag (some c.args.body.now) c.refusal-answer.ensures c.if-answer-ne0.false (λ i. grind arith) c.wide-n.ensures.0 c.span_of-span.ensures in
     omega (arith, z.ends)
 
 pub overflow_sub-left-3 : goal.overflow_sub-left-3
 overflow_sub-left-3 c =
-    let z = numbers c.args.room.now c.args.stated c.args.tag (some c.args.body.now) c.refusal-answer.ensures c.if-answer-ne0.false (λ i. omega (arith, c.slice_known-1.given i)) c.wide-n.ensures.0 c.span_of-span.ensures in
+    let z = numbers c.args.room.now c.args.stated c.args.tag (some c.args.body.now) c.refusal-answer.ensures c.if-answer-ne0.false (λ i. grind arith) c.wide-n.ensures.0 c.span_of-span.ensures in
     omega (arith, z.room_for, c.rows_size-freed.ensures)
 
 pub overflow_add-length : goal.overflow_add-length
 overflow_add-length c =
-    let z = numbers c.args.room.now c.args.stated c.args.tag (some c.args.body.now) c.refusal-answer.ensures c.if-answer-ne0.false (λ i. omega (arith, c.slice_known-1.given i)) c.wide-n.ensures.0 c.span_of-span.ensures in
+    let z = numbers c.args.room.now c.args.stated c.args.tag (some c.args.body.now) c.refusal-answer.ensures c.if-answer-ne0.false (λ i. grind arith) c.wide-n.ensures.0 c.span_of-span.ensures in
     omega (arith, z.reach, c.well_formed)
 
 pub overflow_add-length-2 : goal.overflow_add-length-2
 overflow_add-length-2 c =
-    let most = rw (← c.rows_size-freed.ensures) at (numbers c.args.room.now c.args.stated c.args.tag (some c.args.body.now) c.refusal-answer.ensures c.if-answer-ne0.false (λ i. omega (arith, c.slice_known-1.given i)) c.wide-n.ensures.0 c.span_of-span.ensures).left-most in
-    record { fits = holds_length most (omega (arith, c.well_formed)) (omega (arith, (passes c.args.room.now c.args.stated c.args.tag (some c.args.body.now) c.refusal-answer.ensures c.if-answer-ne0.false (λ i. omega (arith, c.slice_known-1.given i))).short)) (omega arith) }
+    let most = rw (← c.rows_size-freed.ensures) at (numbers c.args.room.now c.args.stated c.args.tag (some c.args.body.now) c.refusal-answer.ensures c.if-answer-ne0.false (λ i. grind arith) c.wide-n.ensures.0 c.span_of-span.ensures).left-most in
+    record { fits = holds_length most (omega (arith, c.well_formed)) (omega (arith, (passes c.args.room.now c.args.stated c.args.tag (some c.args.body.now) c.refusal-answer.ensures c.if-answer-ne0.false (λ i. grind arith)).short)) (omega arith) }
 
 pub returns-then-room-length : goal.returns-then-room-length
 returns-then-room-length c =
-    let P = passes c.args.room.now c.args.stated c.args.tag (some c.args.body.now) c.refusal-answer.ensures c.if-answer-ne0.false (λ i. omega (arith, c.slice_known-1.given i)) in
-    let S = span c.args.room.now c.args.stated c.args.tag (some c.args.body.now) c.refusal-answer.ensures c.if-answer-ne0.false (λ i. omega (arith, c.slice_known-1.given i)) c.wide-n.ensures.0 c.span_of-span.ensures in
+    let P = passes c.args.room.now c.args.stated c.args.tag (some c.args.body.now) c.refusal-answer.ensures c.if-answer-ne0.false (λ i. grind arith) in
+    let S = span c.args.room.now c.args.stated c.args.tag (some c.args.body.now) c.refusal-answer.ensures c.if-answer-ne0.false (λ i. grind arith) c.wide-n.ensures.0 c.span_of-span.ensures in
     let r = too_long c.args.room.now c.args.stated c.args.tag (some c.args.body.now) P _ (rw c.rows_size-freed.ensures (set-size _ _ S c.args.body.now)) c.if-room-length.true in
     record { value = r.0; room_after = r.1 }
 
 pub take_out-requires : goal.take_out-requires
 take_out-requires c =
-    let z = numbers c.args.room.now c.args.stated c.args.tag (some c.args.body.now) c.refusal-answer.ensures c.if-answer-ne0.false (λ i. omega (arith, c.slice_known-1.given i)) c.wide-n.ensures.0 c.span_of-span.ensures in
+    let z = numbers c.args.room.now c.args.stated c.args.tag (some c.args.body.now) c.refusal-answer.ensures c.if-answer-ne0.false (λ i. grind arith) c.wide-n.ensures.0 c.span_of-span.ensures in
     record {
       n_bound = (z.after, z.rises, z.ends, z.reach);
       row_le_past = omega (arith, z.up, z.inside, z.few, c.wide-n.ensures.0);
@@ -77,18 +77,18 @@ take_out-requires c =
 
 pub overflow_sub-n : goal.overflow_sub-n
 overflow_sub-n c =
-    let z = numbers c.args.room.now c.args.stated c.args.tag (some c.args.body.now) c.refusal-answer.ensures c.if-answer-ne0.false (λ i. omega (arith, c.slice_known-1.given i)) c.wide-n.ensures.0 c.span_of-span.ensures in
+    let z = numbers c.args.room.now c.args.stated c.args.tag (some c.args.body.now) c.refusal-answer.ensures c.if-answer-ne0.false (λ i. grind arith) c.wide-n.ensures.0 c.span_of-span.ensures in
     omega (arith, z.inside)
 
 pub overflow_sub-span : goal.overflow_sub-span
 overflow_sub-span c =
-    let z = numbers c.args.room.now c.args.stated c.args.tag (some c.args.body.now) c.refusal-answer.ensures c.if-answer-ne0.false (λ i. omega (arith, c.slice_known-1.given i)) c.wide-n.ensures.0 c.span_of-span.ensures in
+    let z = numbers c.args.room.now c.args.stated c.args.tag (some c.args.body.now) c.refusal-answer.ensures c.if-answer-ne0.false (λ i. grind arith) c.wide-n.ensures.0 c.span_of-span.ensures in
     omega (arith, z.after, z.inside, c.rows_size-freed.ensures)
 
 pub put_in-requires : goal.put_in-requires
 put_in-requires c =
-    let P = passes c.args.room.now c.args.stated c.args.tag (some c.args.body.now) c.refusal-answer.ensures c.if-answer-ne0.false (λ i. omega (arith, c.slice_known-1.given i)) in
-    let S = span c.args.room.now c.args.stated c.args.tag (some c.args.body.now) c.refusal-answer.ensures c.if-answer-ne0.false (λ i. omega (arith, c.slice_known-1.given i)) c.wide-n.ensures.0 c.span_of-span.ensures in
+    let P = passes c.args.room.now c.args.stated c.args.tag (some c.args.body.now) c.refusal-answer.ensures c.if-answer-ne0.false (λ i. grind arith) in
+    let S = span c.args.room.now c.args.stated c.args.tag (some c.args.body.now) c.refusal-answer.ensures c.if-answer-ne0.false (λ i. grind arith) c.wide-n.ensures.0 c.span_of-span.ensures in
     let z = second _ _ S _ c.rows_size-freed.ensures in
     let same : length c.take_out.new.room ≡ length c.args.room.now = c.take_out.auto.room in
     let small = rw (← c.take_out.ensures) at (first_small _ _ S) in
@@ -100,8 +100,8 @@ shape_of-room c = c.put_in.auto.room ∙ c.take_out.auto.room
 pub returns : goal.returns
 returns c =
     let a = c.args in
-    let P = passes c.args.room.now c.args.stated c.args.tag (some c.args.body.now) c.refusal-answer.ensures c.if-answer-ne0.false (λ i. omega (arith, c.slice_known-1.given i)) in
-    let S = span c.args.room.now c.args.stated c.args.tag (some c.args.body.now) c.refusal-answer.ensures c.if-answer-ne0.false (λ i. omega (arith, c.slice_known-1.given i)) c.wide-n.ensures.0 c.span_of-span.ensures in
+    let P = passes c.args.room.now c.args.stated c.args.tag (some c.args.body.now) c.refusal-answer.ensures c.if-answer-ne0.false (λ i. grind arith) in
+    let S = span c.args.room.now c.args.stated c.args.tag (some c.args.body.now) c.refusal-answer.ensures c.if-answer-ne0.false (λ i. grind arith) c.wide-n.ensures.0 c.span_of-span.ensures in
     let f = c.rows_size-freed.ensures in
     let l : a.stated - (c.span_of-span.result.to - c.span_of-span.result.from) - c.rows_size-freed.result + length a.body.now + 4 ≡ length (sheet_after a.room.now a.stated a.tag (some a.body.now)) =
     rw f (set-size _ _ S a.body.now) in
