@@ -9,14 +9,13 @@ use lib.ListN.{get_or-map}
 use Rattle.commands.specs.Commands.{kind_of}
 use Rattle.pec.proofs.Table.{value_at}
 use Rattle.pec.specs.Table.{values_below}
-use Rattle.commands.proofs.row.Statement.{statement}
-use Rattle.commands.proofs.row.Tie as tie
+use Rattle.commands.proofs.row.Goals as goal
 
-returns : tie.Need-returns
+pub returns-then-command-gt63 : goal.returns-then-command-gt63
 unfolding kind_of
-returns c =
-    let h = c.if1.true in
-    let n = c.before.args.command in
+returns-then-command-gt63 c =
+    let h = c.if-command-gt63.true in
+    let n = c.args.command in
     simp (
       lt-leb n 4 (omega arith),
       lt-leb n 28 (omega arith),
@@ -29,14 +28,8 @@ returns c =
       le-leb 60 n (omega arith),
     )
 
-small : (c : tie.Else1) → c.before.args.command < 64
-small c = omega (arith, c.if1.false)
-
-returns-2 : tie.Need-returns-2
+pub returns : goal.returns
 unfolding kind_of
-returns-2 c =
-    let n = c.before.before.args.command in
-    get_or-map kind_of (values_below 64 (λ k. k)) n 0 ∙ ap kind_of (value_at (λ k. k) 64 n (small c.before))
-
-pub row-spec : {M : Type 1} → statement M
-row-spec = tie.close (tie.spec returns (λ c. search rules) returns-2)
+returns c =
+    let n = c.args.command in
+    get_or-map kind_of (values_below 64 (λ k. k)) n 0 ∙ ap kind_of (value_at (λ k. k) 64 n ((let it : c.args.command < 64 = omega (arith, c.if-command-gt63.false) in it)))
