@@ -249,7 +249,7 @@ fn read(bytes: &[u8]) -> Table
     with_line(t, line)
 }
 
-// The one place that makes a slice of rows: its proof is a walk by hand.
+// The one place that makes a slice of rows.
 fn figures_of(rows: [Row; 65], count: usize) -> Figures
     requires { count ≤ 65 }
     ensures { result ≡ report_of (take count rows) }
