@@ -149,7 +149,9 @@ class Function:
         for old, new, place in self.needs:
             if norm(new) == norm(name):
                 return new, place
-        return None
+        kind = re.match(r"nonzero-(?:div|rem)", name.replace("_", "-"))
+        rest = [(new, place) for old, new, place in self.needs if kind and new.replace("_", "-").startswith(kind[0])]
+        return rest[0] if len(rest) == 1 else None
 
     def arm(self, chain, name, after, order):
         """A field of a match's arm, and how much of the text after the step it takes."""
@@ -238,10 +240,10 @@ def rewrite(body, chain, said, what, fn, at_places=None):
         if new == step[1] and re.match(r"(core|std)::", place[3] or "") and re.match(r"\.ensures(?!\.[a-z])", text[at:]):
             out.append(".ensures.value")
             at += len(".ensures")
-        lent = fn.clauses.get(place[3] or "", {}).get("lent") if new == step[1] else None
-        clause = re.match(r"\.new\.(\d+)", text[at:])
-        if lent and clause and int(clause[1]) < len(lent):
-            out.append(".new." + lent[int(clause[1])])
+        lent = fn.of["params"].get(place[3] or "") if new == step[1] else None
+        clause = re.match(r"\.new((?:\.1)*)(\.0)?(?![\w.])", text[at:])
+        if lent and clause and (clause[1] or clause[2]) and clause[1].count("1") < len(lent):
+            out.append(".new." + lent[clause[1].count("1")])
             at += clause.end()
         clause = re.match(r"\.(\d+)", text[at:])
         if new == "requires" and fn.own.get("requires") and clause and int(clause[1]) < len(fn.own["requires"]):

@@ -32,9 +32,12 @@ send_charger_words-length-requires c =
     let q = c.moved-p.result in
     let plain = q.settings.plain in
     let room = c.args.room.now in
-    let long : length c.send_alarms-at.new.1.1.0 ≡ length room = ap length c.send_alarms-at.ensures.memory ∙ length-sets room 0 (all_sent plain (alarms_of q)) in
+    let long : length c.send_alarms-at.new.room ≡ length room = ap length c.send_alarms-at.ensures.memory ∙ length-sets room 0 (all_sent plain (alarms_of q)) in
     let same = ap least_room (same_choice c.args.s.pack q c.args.sample c.moved-p.ensures) in
     (c.charger_goes-charger.ensures, omega (arith, long, alarms_small q plain, c.send_alarms-at.ensures.length, same, room_is plain, c.requires.1))
+
+pub nonzero_div-result : goal.nonzero_div-result
+nonzero_div-result c = omega (arith, c.message_size-size.ensures, some_size c.moved-p.result.settings.plain)
 
 pub returns : goal.returns
 returns c =
