@@ -55,19 +55,119 @@ def items(text):
     return got
 
 
+CLAUSE = re.compile(r"\b(requires|ensures)\s+(?:(\w+)\s+)?\{")
+FN = re.compile(r"(?m)^\s*(?:pub )?(?:extern \"C\" )?fn (\w+)")
+
+
+def clauses_below(top):
+    """The names of each function's clauses, by crate::function, where they have names."""
+    out = {}
+    for crate in os.listdir(top):
+        src = os.path.join(top, crate, "src")
+        for folder, _, files in os.walk(src):
+            for it in files:
+                if not it.endswith(".rt"):
+                    continue
+                with open(os.path.join(folder, it), encoding="utf-8") as f:
+                    text = f.read()
+                heads = list(FN.finditer(text))
+                for m, after in zip(heads, heads[1:] + [None]):
+                    part = text[m.end(): after.start() if after else len(text)]
+                    part = part.split("\n{")[0]
+                    got = {"requires": [], "ensures": []}
+                    for kind, name in CLAUSE.findall(part):
+                        got[kind].append(name)
+                    out[f"{crate}::{m[1]}"] = {k: v for k, v in got.items() if len(v) > 1}
+    return out
+
+
+def apart(body, names):
+    """A product as a record of the clauses' names, unless a tactic finds it."""
+    text = body.strip()
+    if re.match(r"(rw|simp|omega|search|grind|cc|refl|let|elim|λ|record|subst\S*|\()(?![\w-])", text):
+        return body
+    return " record { " + "; ".join(f"{n} = ({text}).{k}" for k, n in enumerate(names)) + " }"
+
+
+def as_record(body, names):
+    """A tuple at the end of an answer as a record of the clauses' names."""
+    text = body.rstrip()
+    if not text.endswith(")"):
+        return apart(body, names)
+    depth, at = 0, len(text)
+    while at > 0:
+        at -= 1
+        if text[at] in ")]}":
+            depth += 1
+        elif text[at] in "([{":
+            depth -= 1
+            if depth == 0:
+                break
+    before = text[:at].rstrip()
+    if before and not re.search(r"(\bin|=|\.)$", before):
+        return apart(body, names)
+    parts, depth, start = [], 0, at + 1
+    for i in range(at + 1, len(text) - 1):
+        if text[i] in "([{":
+            depth += 1
+        elif text[i] in ")]}":
+            depth -= 1
+        elif text[i] == "," and depth == 0:
+            parts.append(text[start:i].strip())
+            start = i + 1
+    last = text[start: len(text) - 1].strip()
+    if last:
+        parts.append(last)
+    if len(parts) != len(names):
+        return apart(body, names)
+    return text[:at] + "record { " + "; ".join(f"{n} = {v}" for n, v in zip(names, parts)) + " }"
+
+
 class Function:
-    def __init__(self, of):
+    def __init__(self, of, clauses, own):
+        self.clauses, self.own = clauses, clauses.get(own, {})
         self.places = {it[0]: it for it in of["places"]}
         self.needs = []
         for (old, new), (place, _) in zip(of["needs"], of["asked_at"]):
             self.needs.append((norm(old), new, place))
         self.loops = [(names, vars_, changed) for (names, vars_), changed in zip(of["loops"], of["changed"])]
         self.of = of
+        self.renamed = dict(zip(self.places, of["places_by_name"]))
+        self.by_norm = {norm(it): it for it in self.places}
 
     def need(self, name):
         for old, new, place in self.needs:
-            if old == norm(name):
+            if old in (norm(name), norm(name).replace("slice-bounds-", "part-")):
                 return new, place
+        for old, new, place in self.needs:
+            if norm(new) == norm(name):
+                return new, place
+        return None
+
+    def arm(self, chain, name, after, order):
+        """A field of a match's arm, and how much of the text after the step it takes."""
+        by = dict(zip([it[0] for it in self.of["places"]], self.of["arms"]))
+        for k in order:
+            found = by.get(chain[k][0])
+            if not found:
+                continue
+            label, _, fields = found
+            best = None
+            for new, old, path in fields:
+                lead = "." + ".".join(path)
+                if norm(old) == norm(name) and path and after.startswith(lead) and not after[len(lead): len(lead) + 1].isdigit():
+                    if best is None or len(lead) > best[1]:
+                        best = (f"{label}.{new}", len(lead))
+            if best:
+                return best
+        return None
+
+    def typed(self, chain, name):
+        by = dict(zip([it[0] for it in self.of["places"]], self.of["typed"]))
+        for it in chain:
+            for var, old in by.get(it[0], []):
+                if norm(old) == norm(name):
+                    return var
         return None
 
     def chain(self, place):
@@ -78,10 +178,12 @@ class Function:
         return out
 
 
-def rewrite(body, chain, said, what):
+def rewrite(body, chain, said, what, fn, at_places=None):
     """The paths into `c` as today's context has them, let-bound contexts followed."""
     depth = {"c": 0}
     text = body
+    for name, inner in (at_places or {}).items():
+        text = re.sub(r"(?<![^\s(){};,\[\]])" + re.escape(name) + r" c(?:\.before)*(?![^\s(){};,\[\]])", lambda m: "\x00" + name + "\x00", text)
     # let k = c.before.before in
     while True:
         m = re.search(r"\blet (" + NAME + r") = (" + "|".join(re.escape(it) for it in depth) + r")((?:\.before)+|) in\s+", text)
@@ -99,18 +201,57 @@ def rewrite(body, chain, said, what):
             out += [text[at: m.start()], "c"]
             at = m.end()
             continue
-        if n >= len(chain):
-            said.append(f"{what}: {m[0]}: no place so far up")
+        rest = m[3]
+        # the place that has the step, the nearest to where it was counted
+        having = [(abs(k - n), k) for k, it in enumerate(chain) if it[2][0] and norm(it[2][0]) == norm(rest)]
+        given = re.match(r"shared-slice-known|slice-known|shared_slice_known", rest) and text[m.end():].startswith(".given")
+        if given:
+            var = fn.typed(chain, rest)
+            if var:
+                out += [text[at: m.start()], "c.type_inv." + var]
+                at = m.end() + len(".given")
+                continue
+        arm = fn.arm(chain, rest, text[m.end():], [k for _, k in sorted(having)])
+        if arm:
+            out += [text[at: m.start()], "c." + arm[0]]
+            at = m.end() + arm[1]
             continue
-        place = chain[n]
-        step, rest = place[2], m[3]
-        if rest == step[0] or norm(rest) == norm(step[0]):
+        if having:
+            place = chain[min(having)[1]]
+            step = place[2]
             new = step[1]
         else:
-            new = rest
+            place, step, new = chain[min(n, len(chain) - 1)], ("", ""), rest
         out += [text[at: m.start()], "c." + new]
         at = m.end()
-    return "".join(out + [text[at:]])
+        names = fn.clauses.get(place[3] or "", {}).get("ensures") if new == step[1] else None
+        clause = re.match(r"\.ensures\.(\d+)", text[at:])
+        if names and clause and int(clause[1]) < len(names):
+            out.append(".ensures." + names[int(clause[1])])
+            at += clause.end()
+        clause = re.match(r"\.(\d+)", text[at:])
+        if new == "requires" and fn.own.get("requires") and clause and int(clause[1]) < len(fn.own["requires"]):
+            out.append("." + fn.own["requires"][int(clause[1])])
+            at += clause.end()
+    text = "".join(out + [text[at:]])
+    text = re.sub("\x00(.*?)\x00", lambda m: at_places[m[1]], text)
+    # a step's clauses by name, where the step has a name of its own here
+    callees = {it[2][1]: it[3] for it in fn.of["places"] if it[3]}
+    for it in re.finditer(r"\blet (" + NAME + r") = c\.([^\s.]+)\.ensures in\b", text):
+        names = fn.clauses.get(callees.get(it[2]) or "", {}).get("ensures")
+        for k, name in enumerate(names or []):
+            text = re.sub(r"(?<![^\s(){};,\[\]])" + re.escape(it[1]) + r"\." + str(k) + r"(?!\d)", it[1] + "." + name, text)
+    for it in re.finditer(r"\blet (" + NAME + r") = c\.([^\s.]+) in\b", text):
+        names = fn.clauses.get(callees.get(it[2]) or "", {}).get("ensures")
+        for k, name in enumerate(names or []):
+            text = re.sub(r"(?<![^\s(){};,\[\]])" + re.escape(it[1]) + r"\.ensures\." + str(k) + r"(?!\d)", it[1] + ".ensures." + name, text)
+    # an array's own name
+    for old, new in fn.of["args"]:
+        m = re.fullmatch(r"\.args \.(\S+)", old)
+        if m:
+            text = re.sub(r"\." + re.escape(m[1]) + r"(?![\w-])", "." + new.split(" .")[-1], text)
+    # a test of `!x` says what x is
+    return re.sub(r"\bnot-(?:true|false) _ (c\.if-not-[^\s(){};,]*\.(?:true|false))", r"\1", text)
 
 
 def substitute(text, by):
@@ -146,14 +287,27 @@ def split_args(text):
     return args
 
 
-def turn(path, crate, function, of):
+def turn(path, crate, function, of, clauses):
     said = []
     with open(path, encoding="utf-8") as f:
         text = f.read()
     if "tie." not in text or not re.search(r"tie\.(close|spec)", text):
         return [f"{path}: no tie"]
-    fn = Function(of)
-    uses, locals_, invariants, answers = [], [], [], {}
+    fn = Function(of, clauses, f"{crate}::{function.split('.')[-1]}")
+    shapes = {}
+    for it in fn.of["places"]:
+        if it[3] and clauses.get(it[3], {}).get("requires"):
+            shapes[it[3].split("::")[-1]] = clauses[it[3]]["requires"]
+
+    def shaped(new, body):
+        names = None
+        if new == "returns" or new.startswith("returns-"):
+            names = fn.own.get("ensures")
+        m = re.match(r"(\w+?)(?:-.*)?-requires(?:-.*)?$", new)
+        if m and m[1] in shapes:
+            names = shapes[m[1]]
+        return as_record(body, names) if names else body
+    uses, locals_, invariants, answers, at_places = [], [], [], {}, {}
     named = {}
     spec = None
     for kind, name, lines in items(text):
@@ -168,11 +322,26 @@ def turn(path, crate, function, of):
         code = [it for it in lines if not it.startswith("--")]
         comments = [it for it in lines if it.startswith("--")]
         sig = code[0]
-        m = re.search(r" : tie\.(Need-|)(" + NAME + r")", sig)
+        m = re.match(r"(?:(?:pub|abbrev|unfoldable) )*" + NAME + r" : tie\.(Need-|)(" + NAME + r")", sig)
         if name.endswith("-spec") or name.endswith("_spec"):
             spec = block
             continue
+        at_place = re.search(r"\bc : tie\.(" + NAME + r")[^()→]*\)", block)
+        if not m and at_place and norm(at_place[1]) in fn.by_norm:
+            place = fn.by_norm[norm(at_place[1])]
+            eq = re.search(r"(?m)^" + re.escape(name) + r" c =\s", block)
+            if eq and "unfolding" not in block:
+                said_not = []
+                at_places[name] = "(" + rewrite(block[eq.end():].strip(), fn.chain(place), said_not, f"{path}: {name}", fn) + ")"
+                said.extend(said_not)
+                continue
+            block = block.replace(at_place[0], f"c : goal.{fn.renamed[place]})")
+            # the signature's own colon aside, the paths are those of that place
+            locals_.append(rewrite(block, fn.chain(place), said, f"{path}: {name}", fn))
+            continue
         if not m:
+            if "tie." in block:
+                said.append(f"{path}: {name}: speaks of tie")
             locals_.append(block)
             continue
         rest = "\n".join(code[1:])
@@ -193,7 +362,7 @@ def turn(path, crate, function, of):
             new, place = found
             if not params or params[0] != "c":
                 said.append(f"{path}: {name}: takes {params}")
-            out = rewrite(body, fn.chain(place), said, f"{path}: {new}")
+            out = shaped(new, rewrite(body, fn.chain(place), said, f"{path}: {new}", fn, at_places))
             answers[new] = (comments, unfolding, params[:1] or ["c"], lead + out, body)
         else:
             loop = re.match(r"(invariant|decreases)-(.+)$", m[2])
@@ -214,29 +383,31 @@ def turn(path, crate, function, of):
     if spec:
         m = re.search(r"tie\.spec\b", spec)
         args = split_args(spec[m.end():])
-        # positions: the needs that are not answered by name, in order
-        order, at = [it[0] for it in fn.needs], 0
-        for arg in args:
-            if arg in named:
-                key = norm(named[arg])
-                if key in order:
-                    at = order.index(key) + 1
+        # the ones written in place, between the ones that have names
+        order = [it[0] for it in fn.needs]
+        runs, run, at = [], [], 0
+        for arg in args + [None]:
+            key = norm(named[arg]) if arg in named else None
+            if arg is not None and key is None and arg not in [it for it in args if re.match(r"(invariant|decreases)", it)]:
+                run.append(arg)
+            elif arg is None or key in order:
+                to = order.index(key) if key else len(order)
+                runs.append((run, fn.needs[at:to]))
+                run, at = [], to + 1
+        for run, needs in runs:
+            if len(run) != len(needs):
+                run = [it for it in run if not re.match(r"\(λ c κs\. ?search rules\)$", it)]
+            if len(run) != len(needs) and any(not TRIVIAL.fullmatch(re.sub(r"^\(λ [^.]*\. ?|\)$", "", it)) for it in run):
+                said.append(f"{path}: {len(run)} in place for {[it[1] for it in needs]}: {[it for it in run if not TRIVIAL.fullmatch(re.sub(r'^.λ [^.]*[.] ?|.$', '', it))]}")
                 continue
-            lam = re.match(r"\(λ (\S+)((?: \S+)*?)\. ?(.*)\)$", arg, re.S)
-            if not lam:
-                continue
-            if TRIVIAL.fullmatch(lam[3].strip()):
-                continue
-            # the next named one after it settles which it may be
-            rest = args[args.index(arg) + 1:]
-            to = len(order)
-            skipped = 0
-            for it in rest:
-                if it in named and norm(named[it]) in order:
-                    to = order.index(norm(named[it]))
-                    break
-                skipped += 1
-            said.append(f"{path}: inline ({lam[1]}{lam[2]}) between {fn.needs[at - 1][1] if at else 'start'} and {fn.needs[to][1] if to < len(order) else 'end'}: {lam[3].strip()}")
+            for arg, (old, new, place) in zip(run, needs):
+                lam = re.match(r"\(λ (\S+)((?: \S+)*?)\. ?(.*)\)$", arg, re.S)
+                if not lam or TRIVIAL.fullmatch(lam[3].strip()) or len(run) != len(needs):
+                    continue
+                body = lam[3]
+                if lam[1] != "c":
+                    said.append(f"{path}: {new}: takes {lam[1]}")
+                answers[new] = ([], "", ["c"], " " + shaped(new, rewrite(body, fn.chain(place), said, f"{path}: {new}", fn, at_places)), body)
     folder = os.path.dirname(path)
     head = "\n".join(uses)
     dotted = function
@@ -266,6 +437,7 @@ def main():
     top = sys.argv[2].rstrip("/")
     crate = os.path.basename(os.path.realpath(top))
     only = sys.argv[3:]
+    clauses = clauses_below(os.path.join(os.path.realpath(top), ".."))
     for key, of in names.items():
         if not key.endswith(".Lts") or not key.startswith(f"Rattle-{crate}-proofs."):
             continue
@@ -274,7 +446,7 @@ def main():
             continue
         path = os.path.join(top, "proofs", *function.split("."), "Proof.antt")
         if os.path.isfile(path):
-            for it in turn(path, crate, function, of):
+            for it in turn(path, crate, function, of, clauses):
                 print(it)
 
 
