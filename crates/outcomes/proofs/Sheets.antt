@@ -7,7 +7,7 @@ use Rattle.outcomes.proofs.One.{settled}
 use Rattle.sheet.specs.contracts.is_sheet as is_sheet_owed
 use Rattle.sheet.specs.contracts.locate as locate_owed
 use Rattle.sheet.specs.contracts.block_answer as block_answer_owed
-use Rattle.sheet.specs.contracts.block as block_Owed
+use Rattle.sheet.specs.contracts.block as block_owed
 use Rattle.sheet_writer.specs.contracts.write_sheet as write_sheet_owed
 use Rattle.sheet_edit.specs.contracts.set as set_owed
 use Rattle.sheet_edit.specs.contracts.remove as remove_owed
@@ -21,7 +21,7 @@ locate_settled = settled locate_terms (λ M 𝓤 𝓛 memory run. refl)
 pub block_answer_settled : Settled (λ M 𝓤. block_answer_owed.clauses {M = M} {𝓤 = 𝓤}) block_answer_terms
 block_answer_settled = settled block_answer_terms (λ M 𝓤 𝓛 memory run. refl)
 
-pub block_settled : Settled (λ M 𝓤. block_Owed.clauses {M = M} {𝓤 = 𝓤}) block_terms
+pub block_settled : Settled (λ M 𝓤. block_owed.clauses {M = M} {𝓤 = 𝓤}) block_terms
 block_settled = settled block_terms (λ M 𝓤 𝓛 memory run. refl)
 
 pub write_sheet_settled : Settled (λ M 𝓤. write_sheet_owed.clauses {M = M} {𝓤 = 𝓤}) write_sheet_terms
