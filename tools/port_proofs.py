@@ -78,12 +78,19 @@ def clauses_below(top):
                     for kind, name in CLAUSE.findall(part):
                         got[kind].append(name)
                     out[f"{crate}::{m[1]}"] = {k: v for k, v in got.items() if len(v) > 1}
+                    lent = re.findall(r"(\w+): &(?:'\w+ )?mut\b", text[m.end():].split(")", 1)[0])
+                    out[f"{crate}::{m[1]}"]["lent"] = lent
     return out
 
 
 def apart(body, names):
     """A product as a record of the clauses' names, unless a tactic finds it."""
     text = body.strip()
+    if text.startswith("let "):
+        at = [m.end() for m in re.finditer(r"(?<=\s)in(?=\s)", text) if text[: m.start()].count("(") == text[: m.start()].count(")")]
+        tail = text[at[-1]:].strip() if at else ""
+        if tail and not re.match(r"(rw|simp|omega|search|grind|cc|refl|elim|λ|record|subst\S*|\()(?![\w-])", tail):
+            return "\n    " + text[: at[-1]] + "\n    let it = " + tail + " in\n    record { " + "; ".join(f"{n} = it.{k}" for k, n in enumerate(names)) + " }"
     if re.match(r"(rw|simp|omega|search|grind|cc|refl|let|elim|λ|record|subst\S*|\()(?![\w-])", text):
         return body
     return " record { " + "; ".join(f"{n} = ({text}).{k}" for k, n in enumerate(names)) + " }"
@@ -182,8 +189,6 @@ def rewrite(body, chain, said, what, fn, at_places=None):
     """The paths into `c` as today's context has them, let-bound contexts followed."""
     depth = {"c": 0}
     text = body
-    for name, inner in (at_places or {}).items():
-        text = re.sub(r"(?<![^\s(){};,\[\]])" + re.escape(name) + r" c(?:\.before)*(?![^\s(){};,\[\]])", lambda m: "\x00" + name + "\x00", text)
     # let k = c.before.before in
     while True:
         m = re.search(r"\blet (" + NAME + r") = (" + "|".join(re.escape(it) for it in depth) + r")((?:\.before)+|) in\s+", text)
@@ -196,7 +201,8 @@ def rewrite(body, chain, said, what, fn, at_places=None):
     for m in pattern.finditer(text):
         n = depth[m[1]] + m[2].count(".before")
         if m[3] is None:
-            if n or m[1] != "c":
+            lead = re.search(r"(?<![^\s(){};,\[\]])(" + NAME + r") $", text[: m.start()])
+            if (n or m[1] != "c") and not (lead and at_places and lead[1] in at_places):
                 said.append(f"{what}: the context {m[0]} as a whole")
             out += [text[at: m.start()], "c"]
             at = m.end()
@@ -229,12 +235,21 @@ def rewrite(body, chain, said, what, fn, at_places=None):
         if names and clause and int(clause[1]) < len(names):
             out.append(".ensures." + names[int(clause[1])])
             at += clause.end()
+        if new == step[1] and re.match(r"(core|std)::", place[3] or "") and re.match(r"\.ensures(?!\.[a-z])", text[at:]):
+            out.append(".ensures.value")
+            at += len(".ensures")
+        lent = fn.clauses.get(place[3] or "", {}).get("lent") if new == step[1] else None
+        clause = re.match(r"\.new\.(\d+)", text[at:])
+        if lent and clause and int(clause[1]) < len(lent):
+            out.append(".new." + lent[int(clause[1])])
+            at += clause.end()
         clause = re.match(r"\.(\d+)", text[at:])
         if new == "requires" and fn.own.get("requires") and clause and int(clause[1]) < len(fn.own["requires"]):
             out.append("." + fn.own["requires"][int(clause[1])])
             at += clause.end()
     text = "".join(out + [text[at:]])
-    text = re.sub("\x00(.*?)\x00", lambda m: at_places[m[1]], text)
+    for name, inner in (at_places or {}).items():
+        text = re.sub(r"(?<![^\s(){};,\[\]])" + re.escape(name) + r" c(?: κs)?(?![^\s(){};,\[\]])", lambda m: inner[0], text)
     # a step's clauses by name, where the step has a name of its own here
     callees = {it[2][1]: it[3] for it in fn.of["places"] if it[3]}
     for it in re.finditer(r"\blet (" + NAME + r") = c\.([^\s.]+)\.ensures in\b", text):
@@ -250,6 +265,7 @@ def rewrite(body, chain, said, what, fn, at_places=None):
         m = re.fullmatch(r"\.args \.(\S+)", old)
         if m:
             text = re.sub(r"\." + re.escape(m[1]) + r"(?![\w-])", "." + new.split(" .")[-1], text)
+    text = text.replace("in_default.rest", "in_default.in_default-own.rest")
     # a test of `!x` says what x is
     return re.sub(r"\bnot-(?:true|false) _ (c\.if-not-[^\s(){};,]*\.(?:true|false))", r"\1", text)
 
@@ -326,19 +342,24 @@ def turn(path, crate, function, of, clauses):
         if name.endswith("-spec") or name.endswith("_spec"):
             spec = block
             continue
-        at_place = re.search(r"\bc : tie\.(" + NAME + r")[^()→]*\)", block)
-        if not m and at_place and norm(at_place[1]) in fn.by_norm:
-            place = fn.by_norm[norm(at_place[1])]
-            eq = re.search(r"(?m)^" + re.escape(name) + r" c =\s", block)
-            if eq and "unfolding" not in block:
-                said_not = []
-                at_places[name] = "(" + rewrite(block[eq.end():].strip(), fn.chain(place), said_not, f"{path}: {name}", fn) + ")"
-                said.extend(said_not)
+        at_place = re.match(r"(?:(?:pub|abbrev|unfoldable) )*" + NAME + r" : (?:\((" + NAME + r") : tie\.(" + NAME + r")[^()→]*\)|tie\.(" + NAME + r")) →", sig)
+        where = norm(at_place[2] or at_place[3]) if at_place else None
+        if where in fn.by_norm:
+            place = fn.by_norm[where]
+            unfolded = [it for it in code[1:] if it.startswith("unfolding")]
+            eq = re.search(r"(?m)^" + re.escape(name) + r" (" + NAME + r")((?: [^\n=]*?)?) =\s", block)
+            if eq:
+                body = re.sub(r"(?<![^\s(){};,\[\]])" + re.escape(eq[1]) + r"(?![^\s(){}.;,\[\]])", "c", block[eq.end():].strip())
+                inner = rewrite(body, fn.chain(place), said, f"{path}: {name}", fn, at_places)
+                uses_ = [it[1] for it in at_places.values() if it[0] in inner]
+                if eq[2].strip():
+                    inner = f"λ {eq[2].strip()}. {inner}"
+                typed = re.match(r"(?:.|\n)*?→((?:.|\n)*?)\n(?:unfolding|" + re.escape(name) + r" )", block)
+                if typed and at_place[1] and not eq[2].strip():
+                    kind = re.sub(r"(?<![^\s(){};,\[\]])" + re.escape(eq[1]) + r"(?![^\s(){}.;,\[\]])", "c", typed[1].strip())
+                    inner = f"let it : {rewrite(kind, fn.chain(place), said, path, fn, at_places)} = {inner} in it"
+                at_places[name] = ("(" + inner + ")", "\n".join(unfolded + [it for it in uses_ if it]))
                 continue
-            block = block.replace(at_place[0], f"c : goal.{fn.renamed[place]})")
-            # the signature's own colon aside, the paths are those of that place
-            locals_.append(rewrite(block, fn.chain(place), said, f"{path}: {name}", fn))
-            continue
         if not m:
             if "tie." in block:
                 said.append(f"{path}: {name}: speaks of tie")
@@ -363,7 +384,11 @@ def turn(path, crate, function, of, clauses):
             if not params or params[0] != "c":
                 said.append(f"{path}: {name}: takes {params}")
             out = shaped(new, rewrite(body, fn.chain(place), said, f"{path}: {new}", fn, at_places))
+            more = {it[1] for it in at_places.values() if it[1] and it[0] in out}
+            unfolding = "\n".join(([unfolding] if unfolding else []) + sorted(more))
             answers[new] = (comments, unfolding, params[:1] or ["c"], lead + out, body)
+            if not unfolding:
+                at_places[name] = ("(" + out.strip() + ")", "")
         else:
             loop = re.match(r"(invariant|decreases)-(.+)$", m[2])
             rows = [it for it in fn.loops if loop and norm(it[0][0]) == norm(loop[2])]
@@ -401,13 +426,13 @@ def turn(path, crate, function, of, clauses):
                 said.append(f"{path}: {len(run)} in place for {[it[1] for it in needs]}: {[it for it in run if not TRIVIAL.fullmatch(re.sub(r'^.λ [^.]*[.] ?|.$', '', it))]}")
                 continue
             for arg, (old, new, place) in zip(run, needs):
-                lam = re.match(r"\(λ (\S+)((?: \S+)*?)\. ?(.*)\)$", arg, re.S)
+                lam = re.match(r"\(λ ([^\s.]+)((?: [^\s.]+)*)\. ?(.*)\)$", arg, re.S)
                 if not lam or TRIVIAL.fullmatch(lam[3].strip()) or len(run) != len(needs):
                     continue
                 body = lam[3]
                 if lam[1] != "c":
                     said.append(f"{path}: {new}: takes {lam[1]}")
-                answers[new] = ([], "", ["c"], " " + shaped(new, rewrite(body, fn.chain(place), said, f"{path}: {new}", fn, at_places)), body)
+                answers[new] = ([], "\n".join(it for it in spec.split("\n") if it.startswith("unfolding")), ["c"], " " + shaped(new, rewrite(body, fn.chain(place), said, f"{path}: {new}", fn, at_places)), body)
     folder = os.path.dirname(path)
     head = "\n".join(uses)
     dotted = function

@@ -1,4 +1,6 @@
 // The writer of captures, for tools and tests.
+#![tactic(auto)]
+
 ghost use Rattle.std.specs.Prelude.{◌≡◌, ◌+◌, ◌*◌, ◌<◌, leb, length};
 ghost use Rattle.std.proofs.lemmas.List.Edits.{sets};
 ghost use Rattle.capture_writer.specs.Writer.{interleaved, given_fit, capture_answer, capture_wrote, capture_room};

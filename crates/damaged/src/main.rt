@@ -1,4 +1,5 @@
 // Sheets and captures, good and damaged, one for each fault: what each answers is printed.
+#![tactic(auto)]
 ghost use Rattle.std.specs.Prelude.{◌≡◌};
 ghost use Rattle.reader.specs.Reading.{start_of, step_of, after_of, moved};
 

@@ -1,5 +1,6 @@
 // The program that two old huts run: five minutes of a pack, a sample each second, and a line for each sample that
 // broadcasts: the second, then the bytes in hex. A host's write is a line too: its bytes, and the answer.
+#![tactic(auto)]
 ghost use Rattle.std.specs.Prelude.{◌≤◌};
 
 use libc::STDOUT_FILENO;

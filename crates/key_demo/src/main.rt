@@ -1,4 +1,5 @@
 // Two packs that a dash merges, their keys, and what the reader answers to bytes that aren't a key.
+#![tactic(auto)]
 const OUT: i32 = 1;
 
 fn line() {

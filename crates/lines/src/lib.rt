@@ -1,4 +1,5 @@
 // The line that a player prints for a row: the answer, then a space and the reply in hex if there is one.
+#![tactic(auto)]
 use libc::STDOUT_FILENO;
 
 fn print_byte(b: u8) {

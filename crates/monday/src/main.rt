@@ -1,6 +1,7 @@
 // Monday's figures of a table of packs, read from standard input: a line for each pack, with its remaining, full and
 // design mAh and its cycle count, decimal numbers of 0 to 65535 with spaces or tabs between them. Empty lines and lines
 // that start with `#` are passed over.
+#![tactic(auto)]
 ghost use Rattle.std.specs.Prelude.{◌+◌, ◌≤◌, ◌<◌, ◌^◌, ◌≡◌, take};
 ghost use Rattle.shelf.specs.Shelf.{report_of};
 ghost use Rattle.monday.specs.Numbers.{appended};

@@ -1,5 +1,6 @@
 // The check byte of a message that is given as hex bytes: all arguments form one message, and an argument may hold several
 // bytes. With no argument, worked examples 1 to 4.
+#![tactic(auto)]
 ghost use Rattle.std.specs.Prelude.{◌≡◌};
 ghost use Rattle.pec.specs.Pec.{pec_from};
 ghost use Rattle.pec_demo.specs.Hex.{value_of, fault_of, byte_of, bytes_of};

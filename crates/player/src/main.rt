@@ -1,4 +1,5 @@
 // Plays a bus capture, read from standard input, to a pack: a line for each row, `14` for a bad capture.
+#![tactic(auto)]
 use capture::Step;
 use libc::{STDIN_FILENO, STDOUT_FILENO};
 use pack::{Sample, State};

@@ -1,5 +1,6 @@
 // Published figures, run through the public entries, a line each with its label: source 001's packets and the CRC-8
 // catalogue's figure, every command code's row, the words that 002 packs, document 01's twelve worked examples.
+#![tactic(auto)]
 ghost use Rattle.std.specs.Prelude.{◌≤◌};
 
 use bus::Transacted;

@@ -1,5 +1,7 @@
 // A reader walks a lent capture and remembers its row and place. Each function over the struct takes it apart and leaves
 // the work to a covered function on the bytes and the two numbers.
+#![tactic(auto)]
+
 ghost use Rattle.std.specs.Prelude.{◌≡◌};
 ghost use Rattle.capture.specs.Walk.{opened_of, step_at, body_at, body_place, row_after, place_after};
 ghost use Rattle.reader.specs.Reading.{start_of, step_of, body_of, body_start, after_of};

@@ -14,7 +14,7 @@ use Rattle.sheet_steps.specs.Steps.{count_below, place_in, span_in, taken_out, p
 use Rattle.sheet_edit.specs.Edit.{below, above, edited, sheet_after, room_with}
 use Rattle.sheet_edit.proofs.Entries.{same, Parts, parts, count_is}
 use Rattle.sheet_edit.proofs.Rooms.{drop_zeros, room_split, Front, room_is, sheet_is}
-use Rattle.sheet_edit.proofs.Shapes.{place_is, taken_out, put-in}
+use Rattle.sheet_edit.proofs.Shapes.{place_is, taken-out, put-in}
 
 -- ---- the span of a tag
 
@@ -182,7 +182,7 @@ module _ {room : List ℕ} {stated : ℕ} (F : Front room stated) (tag : ℕ) wh
         ap (λ (s : List ℕ). taken_out s stated k p) (room_is F)
         ∙ ap (λ (i : ℕ). taken_out (sheet_of old L ++ w) stated i p) S.count
         ∙ ap (λ (x : List Entry). taken_out (sheet_of old x ++ w) stated (length x) p) (sym three.whole)
-        ∙ taken_out old B M A w stated p (F.size ∙ ap (λ (x : List Entry). length (sheet_of old x)) (sym three.whole)) S.row S.past (S.from ∙ start) (S.to ∙ end)
+        ∙ taken-out old B M A w stated p (F.size ∙ ap (λ (x : List Entry). length (sheet_of old x)) (sym three.whole)) S.row S.past (S.from ∙ start) (S.to ∙ end)
       where
         start : 1 + 4 * n + length (bodies_of B) ≡ 1 + 4 * length (B ++ (M ++ A)) + length (bodies_of B)
         start = ap (λ (x : List Entry). 1 + 4 * length x + length (bodies_of B)) (sym three.whole)

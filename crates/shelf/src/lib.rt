@@ -1,4 +1,6 @@
 // Monday's figures for the shelf: a report over a table of packs, each a row.
+#![tactic(auto)]
+
 ghost use Rattle.std.specs.Prelude.{◌≡◌};
 ghost use Rattle.shelf.specs.Shelf.{report_of};
 

@@ -1,4 +1,6 @@
 // The shelf's table in lent bytes, for C: rows of four words, each low byte first, and the report in 16 bytes.
+#![tactic(auto)]
+
 ghost use Rattle.std.specs.Prelude.{◌≡◌, length};
 ghost use Rattle.numbers.specs.Numbers.{bytes_taken, flag_of};
 ghost use Rattle.shelf.specs.Shelf.{report_of};

@@ -1,0 +1,59 @@
+-- `write_capture` meets its contract: the stores after each other are those of the capture. Assumes nothing.
+use Rattle.std.proofs.Common.{◌≡◌, ℕ, ◌≤◌, List, length, sym, arith}
+use Rattle.std.proofs.Math.ListN.{length-set}
+use Rattle.capture_writer.specs.Writer.{room_asked, capture_answer}
+use Rattle.capture_writer.proofs.Written.{Given, given, refused, allowed, served}
+use Rattle.capture_writer.proofs.write_capture.Goals as goal
+use borrow.Author.Tests.{leb-true}
+
+-- past the test the room holds the rows, and they fit
+enough : (marks sizes bodies room : List ℕ) (a : ℕ) → a ≡ capture_answer marks sizes bodies (length room) → a ≡ 0 → room_asked marks sizes bodies ≤ length room
+enough marks sizes bodies room a e z = leb-true (room_asked marks sizes bodies) (length room) (allowed marks sizes bodies room a e z).0
+
+rows : (marks sizes bodies room : List ℕ) (a : ℕ) → a ≡ capture_answer marks sizes bodies (length room) → a ≡ 0 → Given marks sizes bodies
+rows marks sizes bodies room a e z = given marks sizes bodies (allowed marks sizes bodies room a e z).1
+
+pub returns-then-answer-ne0 : goal.returns-then-answer-ne0
+returns-then-answer-ne0 c =
+    let a = c.args in
+    let r = refused a.marks.now a.lengths.now a.bodies.now a.room.now _ c.answer_for-answer.ensures c.if-answer-ne0.true in
+    record { value = r.0; room_after = r.1 }
+
+pub overflow_cast-room : goal.overflow_cast-room
+overflow_cast-room c =
+    let a = c.args in
+    omega (arith, (rows a.marks.now a.lengths.now a.bodies.now a.room.now _ c.answer_for-answer.ensures c.if-answer-ne0.false).byte)
+
+pub bounds-room-0 : goal.bounds-room-0
+bounds-room-0 c =
+    let a = c.args in
+    omega (arith, enough a.marks.now a.lengths.now a.bodies.now a.room.now _ c.answer_for-answer.ensures c.if-answer-ne0.false)
+
+pub put_rows-requires : goal.put_rows-requires
+put_rows-requires c =
+    let a = c.args in
+    let g = rows a.marks.now a.lengths.now a.bodies.now a.room.now _ c.answer_for-answer.ensures c.if-answer-ne0.false in
+    let h = enough a.marks.now a.lengths.now a.bodies.now a.room.now _ c.answer_for-answer.ensures c.if-answer-ne0.false in
+    (sym g.even, simp length-set (omega (arith, h, g.even)))
+
+pub put_bytes-requires : goal.put_bytes-requires
+put_bytes-requires c =
+    let a = c.args in
+    let g = rows a.marks.now a.lengths.now a.bodies.now a.room.now _ c.answer_for-answer.ensures c.if-answer-ne0.false in
+    let h = enough a.marks.now a.lengths.now a.bodies.now a.room.now _ c.answer_for-answer.ensures c.if-answer-ne0.false in
+    omega (arith, h, g.even, c.put_rows.auto.room, length-set a.room.now 0 (length a.marks.now))
+
+pub overflow_add-result : goal.overflow_add-result
+overflow_add-result c =
+    let a = c.args in
+    let g = rows a.marks.now a.lengths.now a.bodies.now a.room.now _ c.answer_for-answer.ensures c.if-answer-ne0.false in
+    let h = enough a.marks.now a.lengths.now a.bodies.now a.room.now _ c.answer_for-answer.ensures c.if-answer-ne0.false in
+    omega (arith, h, g.even)
+
+pub returns : goal.returns
+returns c =
+    let a = c.args in
+    let o = allowed a.marks.now a.lengths.now a.bodies.now a.room.now _ c.answer_for-answer.ensures c.if-answer-ne0.false in
+    let g = rows a.marks.now a.lengths.now a.bodies.now a.room.now _ c.answer_for-answer.ensures c.if-answer-ne0.false in
+    let r = served a.marks.now a.lengths.now a.bodies.now a.room.now o.0 o.1 c.put_rows.ensures (omega (arith, g.byte)) c.put_bytes.ensures _ c.if-answer-ne0.false in
+    record { value = r.0; room_after = r.1 }

@@ -1,0 +1,9 @@
+-- `registers::design_capacity` meets its contract.
+-- Assumes nothing.
+use borrow.Author.Rules.{rules}
+use Rattle.registers.specs.Registers.{design_capacity}
+use Rattle.registers.proofs.design_capacity.Goals as goal
+
+pub returns : goal.returns
+unfolding design_capacity
+returns c = c.capacity_of.ensures
