@@ -15,21 +15,18 @@ use Rattle.charger.proofs.message.Goals as goal
 
 pub returns-then-n-size : goal.returns-then-n-size
 returns-then-n-size c =
-
     let a = c.args in
     let it = none a.plain a.broadcast.now a.at a.broadcast.ref_ptr c.message_size-size.ensures (omega (arith, c.if-n-size.true)) in
     record { result_value = it.0; ref_ptr_value = it.1 }
 
 pub returns-then-n-size-2 : goal.returns-then-n-size-2
 returns-then-n-size-2 c =
-
     let a = c.args in
     let it = none a.plain a.broadcast.now a.at a.broadcast.ref_ptr c.message_size-size.ensures (omega (arith, c.if-n-size-2.true, c.if-n-size.false)) in
     record { result_value = it.0; ref_ptr_value = it.1 }
 
 pub returns : goal.returns
 returns c =
-
     let a = c.args in
     let it = whole a.plain a.broadcast.now a.at a.broadcast.ref_ptr c.message_size-size.ensures (omega (arith, c.if-n-size-2.false, c.if-n-size.false)) in
     record { result_value = it.0; ref_ptr_value = it.1 }
