@@ -4,3 +4,4 @@ pub mod Shapes
 pub mod Rooms
 pub mod Whole
 pub mod Answers
+pub mod Told

@@ -48,5 +48,8 @@ returns c =
     in_a_row room 0 c.send_alarms-at.result (all_sent plain (alarms_of q)) (all_sent plain (charger_words_of q)) (broadcast_of q) c.send_alarms-at.ensures.memory
     (c.send_alarms-at.ensures.length ∙ sym (zero-add _)) c.send_charger_words-length.ensures.memory c.send_charger_words-length.ensures.length (both_sent q plain) in
     let t = c.restarted-timers.ensures ∙ ap₂ (restarted_of q.timers) c.alarm_goes-alarm.ensures c.charger_goes-charger.ensures in
-    let same = ap least_room (same_choice c.args.s.pack q c.args.sample c.moved-p.ensures) in record { result = assembled c.args.s c.args.sample q c.send_charger_words-length.result c.message_size-size.result c.restarted-timers.result c.moved-p.ensures
-          (both.0 ∙ zero-add _) c.message_size-size.ensures t; memory = both.1 ∙ front (broadcast_of q) room (omega (arith, at_most_room q, same, c.requires.1)) ∙ ap (λ p. placed (broadcast_of p) room) c.moved-p.ensures }
+    let same = ap least_room (same_choice c.args.s.pack q c.args.sample c.moved-p.ensures) in record {
+      result = assembled c.args.s c.args.sample q c.send_charger_words-length.result c.message_size-size.result c.restarted-timers.result c.moved-p.ensures
+          (both.0 ∙ zero-add _) c.message_size-size.ensures t;
+      memory = both.1 ∙ front (broadcast_of q) room (omega (arith, at_most_room q, same, c.requires.1)) ∙ ap (λ p. placed (broadcast_of p) room) c.moved-p.ensures;
+    }

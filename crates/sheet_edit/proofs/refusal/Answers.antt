@@ -1,6 +1,4 @@
 use mathlib.Core.Path.{sym, ◌∙◌}
-use borrow.Author.Rules.{rules}
-use borrow.Author.Tests.{not-true, not-false}
 use lib.Seq.{length-take-le}
 use Rattle.sheet_edit.proofs.Answers.{past_room, no-sheet, no_name, long-body, no-refusal}
 use Rattle.sheet_edit.proofs.refusal.Goals as goal

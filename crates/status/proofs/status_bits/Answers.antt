@@ -8,7 +8,8 @@ use Rattle.status.proofs.status_bits.Goals as goal
 
 pub returns : goal.returns
 unfolding status_bits
-returns c = record { is = simp (
+returns c = record {
+  is = simp (
     zero-add,
     c.flag-discharged.ensures.is,
     c.flag-charged.ensures.is,
@@ -25,7 +26,8 @@ returns c = record { is = simp (
     c.over_temp.ensures,
     c.flag-terminate_charge.ensures.is,
     c.terminate_charge.ensures,
-  ); small = omega (
+  );
+  small = omega (
     arith,
     c.flag-discharged.ensures.small,
     c.flag-charged.ensures.small,
@@ -35,4 +37,5 @@ returns c = record { is = simp (
     c.flag-terminate_discharge.ensures.small,
     c.flag-over_temp.ensures.small,
     c.flag-terminate_charge.ensures.small,
-  ) }
+  );
+}
