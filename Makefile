@@ -39,10 +39,9 @@ shelf: target/bin/monday
 pec: target/bin/pec_demo
 	@tools/run target/bin/pec_demo $(BYTES)
 
-# A program is proved before it is built; what the check prints is shown only where it fails.
+# A program is proved before it is built; what rt says is shown only where it fails.
 target/bin/%: FORCE
-	@tools/needs rt
-	@log=$$(mktemp) && { rt check $* >"$$log" 2>&1 || { cat "$$log"; rm -f "$$log"; exit 1; }; rm -f "$$log"; }
+	@tools/program $*
 
 FORCE:
 

@@ -7,7 +7,7 @@
  * SNATCHBLOCK_CHARGER_AREA bytes, that of a thirteen-cell pack with one of SNATCHBLOCK_THIRTEEN_AREA (examples/thirteen).
  * All else here is for tools: keys, sheets, captures, the shelf.
  *
- * To link: libsnatchblock.a alone (`rt staticlib snatchblock`; x86-64 Linux today). It calls the C library's memcpy,
+ * To link: libsnatchblock.a alone (`tools/library` makes it; x86-64 Linux today). It calls the C library's memcpy,
  * memmove and memset and nothing else. It has no heap, no variables and no start: all that it knows lies in what a call lends.
  *
  * Units: mV; mA, signed, above 0 charges; capacities mAh, in power mode 10 mWh; charge mA·ms; temperatures 0.1 K

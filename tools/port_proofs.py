@@ -86,6 +86,11 @@ def clauses_below(top):
 def apart(body, names):
     """A product as a record of the clauses' names, unless a tactic finds it."""
     text = body.strip()
+    if text.startswith("let "):
+        at = [m.end() for m in re.finditer(r"(?<=\s)in(?=\s)", text) if text[: m.start()].count("(") == text[: m.start()].count(")")]
+        tail = text[at[-1]:].strip() if at else ""
+        if tail and not re.match(r"(rw|simp|omega|search|grind|cc|refl|elim|λ|record|subst\S*|\()(?![\w-])", tail):
+            return "\n    " + text[: at[-1]] + "\n    let it = " + tail + " in\n    record { " + "; ".join(f"{n} = it.{k}" for k, n in enumerate(names)) + " }"
     if re.match(r"(rw|simp|omega|search|grind|cc|refl|let|elim|λ|record|subst\S*|\()(?![\w-])", text):
         return body
     return " record { " + "; ".join(f"{n} = ({text}).{k}" for k, n in enumerate(names)) + " }"
@@ -144,7 +149,9 @@ class Function:
         for old, new, place in self.needs:
             if norm(new) == norm(name):
                 return new, place
-        return None
+        kind = re.match(r"nonzero-(?:div|rem)", name.replace("_", "-"))
+        rest = [(new, place) for old, new, place in self.needs if kind and new.replace("_", "-").startswith(kind[0])]
+        return rest[0] if len(rest) == 1 else None
 
     def arm(self, chain, name, after, order):
         """A field of a match's arm, and how much of the text after the step it takes."""
@@ -233,10 +240,10 @@ def rewrite(body, chain, said, what, fn, at_places=None):
         if new == step[1] and re.match(r"(core|std)::", place[3] or "") and re.match(r"\.ensures(?!\.[a-z])", text[at:]):
             out.append(".ensures.value")
             at += len(".ensures")
-        lent = fn.clauses.get(place[3] or "", {}).get("lent") if new == step[1] else None
-        clause = re.match(r"\.new\.(\d+)", text[at:])
-        if lent and clause and int(clause[1]) < len(lent):
-            out.append(".new." + lent[int(clause[1])])
+        lent = fn.of["params"].get(place[3] or "") if new == step[1] else None
+        clause = re.match(r"\.new((?:\.1)*)(\.0)?(?![\w.])", text[at:])
+        if lent and clause and (clause[1] or clause[2]) and clause[1].count("1") < len(lent):
+            out.append(".new." + lent[clause[1].count("1")])
             at += clause.end()
         clause = re.match(r"\.(\d+)", text[at:])
         if new == "requires" and fn.own.get("requires") and clause and int(clause[1]) < len(fn.own["requires"]):
@@ -260,6 +267,7 @@ def rewrite(body, chain, said, what, fn, at_places=None):
         m = re.fullmatch(r"\.args \.(\S+)", old)
         if m:
             text = re.sub(r"\." + re.escape(m[1]) + r"(?![\w-])", "." + new.split(" .")[-1], text)
+    text = text.replace("in_default.rest", "in_default.in_default-own.rest")
     # a test of `!x` says what x is
     return re.sub(r"\bnot-(?:true|false) _ (c\.if-not-[^\s(){};,]*\.(?:true|false))", r"\1", text)
 
@@ -426,7 +434,7 @@ def turn(path, crate, function, of, clauses):
                 body = lam[3]
                 if lam[1] != "c":
                     said.append(f"{path}: {new}: takes {lam[1]}")
-                answers[new] = ([], "", ["c"], " " + shaped(new, rewrite(body, fn.chain(place), said, f"{path}: {new}", fn, at_places)), body)
+                answers[new] = ([], "\n".join(it for it in spec.split("\n") if it.startswith("unfolding")), ["c"], " " + shaped(new, rewrite(body, fn.chain(place), said, f"{path}: {new}", fn, at_places)), body)
     folder = os.path.dirname(path)
     head = "\n".join(uses)
     dotted = function

@@ -3,4 +3,5 @@
 set -eu
 cd "$(dirname "$0")/../.."
 make -s -C second
+tools/program player
 exec tests/captures/compare.sh "tools/run target/bin/player" target/second/player "${1:-1}"

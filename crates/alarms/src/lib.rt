@@ -1,4 +1,6 @@
 // What sets the bits of 16 BatteryStatus, 14 ChargingCurrent, which one of them cuts off, and the alarms that samples broadcast. Only our own crates call these.
+#![tactic(auto)]
+
 ghost use Rattle.std.specs.Prelude.{◌≡◌, true};
 ghost use Rattle.pack.specs.Sound.{tank_sound};
 ghost use Rattle.recent.specs.Recent.{recent_sound};

@@ -1,4 +1,6 @@
 // The state in a lent area of bytes: stored, tested and loaded, part by part.
+#![tactic(auto)]
+
 ghost use Rattle.std.specs.Prelude.{◌≡◌, length};
 ghost use Rattle.recent.specs.Fits.{RecentFit};
 ghost use Rattle.area.specs.Area.{area_length, area_of, state_in, is_area, loaded, loaded_of, stored_of, stored_room};

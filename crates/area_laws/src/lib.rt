@@ -1,1 +1,2 @@
 // The theorems on the state's area stand in proofs/; this crate has no code.
+#![tactic(auto)]

@@ -1,4 +1,6 @@
 // The parts of the state in lent bytes, each with its own: stored, tested and loaded.
+#![tactic(auto)]
+
 ghost use Rattle.std.specs.Prelude.{◌≡◌, length};
 ghost use Rattle.recent.specs.Fits.{RecentFit};
 ghost use Rattle.numbers.specs.Numbers.{bytes_taken, flag_of};

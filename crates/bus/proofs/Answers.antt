@@ -43,14 +43,14 @@ module _ (s : State) (service factory : List ℕ) (read : Bool) (bytes : List �
   unfolding transact_reply
   refused_no_reply =
       ap (λ (a : ℕ). side_reply (pack_side s service factory) bytes (asked read bytes) a) e
-      ∙ commands.refused-reply (pack_side s service factory) bytes (asked read bytes) n v
+      ∙ commands.refused_reply (pack_side s service factory) bytes (asked read bytes) n v
 
   pub refused-outcome : transact_of s service factory read bytes room ≡ outcome s n s.pack 0
   unfolding transact_of
   refused-outcome =
       ap (λ (a : ℕ). request_given s service factory bytes (asked read bytes) a) e
       ∙ ap₂ (λ (p : Pack) (x : List ℕ). outcome s n p (length x)) (refused_pack s.pack (asked read bytes) n v)
-      (commands.refused-reply (pack_side s service factory) bytes (asked read bytes) n v)
+      (commands.refused_reply (pack_side s service factory) bytes (asked read bytes) n v)
 
 -- it changes nothing but the error code, and the room stays
 pub refusal : (s : State) (service factory : List ℕ) (read : Bool) (bytes room : List ℕ) (n : ℕ) → transact_answer s service factory read bytes (length room) ≡ n → served n ≡ false
@@ -96,4 +96,4 @@ by_request s service factory read bytes room request sound fits e = (
 
 pub word_reply : (s : State) (service factory bytes : List ℕ) (command : ℕ)
     → reply_of bytes (word_body (word_of s command)) ≡ row_reply (pack_side s service factory) bytes command ReadOnly
-word_reply s service factory bytes command = commands.served-reply (zero_or_ten (given_of s command)) (reply_of bytes (word_body (word_of s command)))
+word_reply s service factory bytes command = commands.served_reply (zero_or_ten (given_of s command)) (reply_of bytes (word_body (word_of s command)))

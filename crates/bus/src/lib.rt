@@ -1,4 +1,6 @@
 // Transactions: the answer to every byte string that the driver gives.
+#![tactic(auto)]
+
 ghost use Rattle.std.specs.Prelude.{◌≡◌, true, cond, ◌≤◌, length};
 ghost use Rattle.bus.specs.Transact.{pack_side, outcome, row_given, transact_of, reply_room};
 ghost use Rattle.commands.specs.Answers.{write_answer, served, row_reply};

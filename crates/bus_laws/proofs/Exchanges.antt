@@ -19,11 +19,11 @@ use Rattle.sheet.specs.Block.{Part, of_service, of_factory, part_of, part_bytes,
 
 pub served_reply : PackReplied
 unfolding transact_answer transact_reply
-served_reply s c command r v = visits.served-reply (visit s c) command r v
+served_reply s c command r v = visits.served_reply (visit s c) command r v
 
 pub exchange_passes : PackPasses
 unfolding transact_answer transact_reply
-exchange_passes s c command r v = visits.exchange-passes (visit s c) command r v
+exchange_passes s c command r v = visits.exchange_passes (visit s c) command r v
 
 -- a name has at most 32 bytes, and its count before them
 block_fits : (s : State) (c : Call) (command : ℕ) → BlockFits (pack_side s c.service c.factory) command
@@ -31,11 +31,11 @@ block_fits s c command k = (omega arith, omega (arith, block-short c.service c.f
 
 pub exchange_accepted : PackAccepted
 unfolding transact_answer transact_reply
-exchange_accepted s c command r v = visits.exchange-accepted (visit s c) command r v (block_fits s c command)
+exchange_accepted s c command r v = visits.exchange_accepted (visit s c) command r v (block_fits s c command)
 
 pub exchange_length : PackLength
 unfolding transact_answer transact_reply
-exchange_length s c command r v = visits.exchange-length (visit s c) command r v (block_fits s c command)
+exchange_length s c command r v = visits.exchange_length (visit s c) command r v (block_fits s c command)
 
 -- ---- what the pack shows are bytes
 
@@ -61,7 +61,7 @@ exchanged s c x =
       is-served = x.is-served;
       address = omega arith;
       a_byte = x.a_byte;
-      word = word_below s x.command (visits.served-heard (visit s c) x.is-served).0 x.fits;
+      word = word_below s x.command (visits.served_heard (visit s c) x.is-served).0 x.fits;
       block =
           block_bytes (block_of c.service c.factory x.command) (block-short c.service c.factory x.command)
           (name_bytes c.service c.factory x.command x.service x.factory);
@@ -69,7 +69,7 @@ exchanged s c x =
 
 pub exchanges_apart : PackApart
 unfolding transact_answer transact_reply
-exchanges_apart s t c d x y = visits.exchanges-apart (visit s c) (visit t d) (exchanged s c x) (exchanged t d y)
+exchanges_apart s t c d x y = visits.exchanges_apart (visit s c) (visit t d) (exchanged s c x) (exchanged t d y)
 
 pub misheard : PackMisheard
 unfolding transact_answer transact_reply exchanged

@@ -132,7 +132,7 @@ other_words p code left written word (suc (suc (suc (suc zero)))) l n = simp (ne
 other_words p code left written word (suc (suc (suc (suc (suc m))))) l n = absurd (omega (arith, l))
 
 same_words : (p : Pack) (code left command : ℕ) → command ≤ 4 → word_of (record { error = left; pack = p }) command ≡ word_of (record { error = code; pack = p }) command
-same_words p code left command l = words.other-words _ _ command refl (λ e. omega (arith, e, l))
+same_words p code left command l = words.other_words _ _ command refl (λ e. omega (arith, e, l))
 
 pub others_stay : OthersStay
 unfolding transact_of

@@ -1,4 +1,6 @@
 // The pack in a lent area of bytes: what each call answers, and what it leaves in the area and in the room.
+#![tactic(auto)]
+
 ghost use Rattle.std.specs.Prelude.{◌≡◌, false, ◌≤◌, length};
 ghost use Rattle.area.specs.Area.{area_length};
 ghost use Rattle.start.specs.SetUp.{set_up_of};

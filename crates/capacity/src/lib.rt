@@ -1,4 +1,6 @@
 // Products from 16-bit parts, and the rules of capacity: 10 mWh, percent and bit 4. Only our own crates call these.
+#![tactic(auto)]
+
 ghost use Rattle.std.specs.Prelude.{◌≡◌, ◌+◌, ◌*◌, ◌%◌, ◌^◌, ◌≤◌, ◌<◌};
 ghost use Rattle.capacity.specs.Capacity.{power_of, energy_of, capped_word, milliamp_ms, percent_of, fully_discharged_of};
 

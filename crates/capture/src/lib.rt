@@ -1,4 +1,6 @@
 // Captures: what bytes are one, its rows and its walk.
+#![tactic(auto)]
+
 ghost use Rattle.std.specs.Prelude.{◌≡◌};
 ghost use Rattle.capture.specs.Capture.{is_capture};
 ghost use Rattle.capture.specs.Walk.{opened_of, step_at, body_at, body_place};

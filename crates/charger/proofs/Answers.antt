@@ -42,14 +42,14 @@ module _ (s : Charger) (read : Bool) (bytes : List ℕ) (room n : ℕ) (e : tran
   pub refused_no_reply : transact_reply s read bytes room ≡ []
   unfolding transact_reply
   refused_no_reply =
-      ap (λ (a : ℕ). side_reply (charger_side s) bytes (asked read bytes) a) e ∙ commands.refused-reply (charger_side s) bytes (asked read bytes) n v
+      ap (λ (a : ℕ). side_reply (charger_side s) bytes (asked read bytes) a) e ∙ commands.refused_reply (charger_side s) bytes (asked read bytes) n v
 
   pub refused-outcome : transact_of s read bytes room ≡ outcome n s 0
   unfolding transact_of
   refused-outcome =
       ap (λ (a : ℕ). request_given s bytes (asked read bytes) a) e
       ∙ ap₂ (λ (p : Charger) (x : List ℕ). outcome n p (length x)) (refused_state s (asked read bytes) n v)
-      (commands.refused-reply (charger_side s) bytes (asked read bytes) n v)
+      (commands.refused_reply (charger_side s) bytes (asked read bytes) n v)
 
 -- it changes nothing, and the room stays
 pub refusal : (s : Charger) (read : Bool) (bytes room : List ℕ) (n : ℕ) → transact_answer s read bytes (length room) ≡ n → served n ≡ false

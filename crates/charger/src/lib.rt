@@ -1,4 +1,6 @@
 // The charger's side: a Level 2 charger at address 0x12, which takes the pack's words and stops by silence, alarm or inhibition.
+#![tactic(auto)]
+
 ghost use Rattle.std.specs.Prelude.{◌≡◌, cond, ◌≤◌, length};
 ghost use Rattle.charger.specs.Commands.{is_shown, is_taken, charger_kind};
 ghost use Rattle.charger.specs.Delivered.{message_at, message_place};

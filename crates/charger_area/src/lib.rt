@@ -1,4 +1,6 @@
 // The charger's state in a lent area of bytes: stored, tested and loaded.
+#![tactic(auto)]
+
 ghost use Rattle.std.specs.Prelude.{◌≡◌, length};
 ghost use Rattle.numbers.specs.Numbers.{bytes_taken};
 ghost use Rattle.charger_area.specs.Area.{asked_widths, asked_bytes, asked_in, is_asked, charger_length, charger_area_of, charger_in, is_charger_area, zero_charger, loaded, loaded_of, stored_of, stored_room};

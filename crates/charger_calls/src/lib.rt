@@ -1,4 +1,6 @@
 // The charger in a lent area of bytes: what each call answers, and what it leaves in the area and in the room.
+#![tactic(auto)]
+
 ghost use Rattle.std.specs.Prelude.{◌≡◌, length};
 ghost use Rattle.charger_area.specs.Area.{charger_length};
 ghost use Rattle.charger_calls.specs.Calls.{start_number, start_area, sound_in, area_after, sample_number, sample_area, transact_number, transact_area, transact_room, current_number};

@@ -43,4 +43,4 @@ time_same =
 
 pub chatter_is_idle : ChatterIsIdle
 chatter_is_idle s es fs r =
-    (chatter.chatter-is-idle charger_party step_law s s es fs r refl, over_is_same charger_party adds_time 0 step_law time_same s s es fs r refl)
+    (chatter.chatter_is_idle charger_party step_law s s es fs r refl, over_is_same charger_party adds_time 0 step_law time_same s s es fs r refl)

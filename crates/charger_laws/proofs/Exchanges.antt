@@ -41,15 +41,15 @@ no_block s command k = absurd (true≢false (sym (ap is_block k) ∙ never_block
 
 six_bytes : (s : Charger) (c : Call) (command : ℕ) → Reads c command → served (answer s c) ≡ true → length (exchange s c) ≡ 6
 unfolding transact_answer transact_reply
-six_bytes s c command r v = of_a_word command (length (exchange s c)) (visits.exchange-length (visit s c) command r v (no_block s command))
+six_bytes s c command r v = of_a_word command (length (exchange s c)) (visits.exchange_length (visit s c) command r v (no_block s command))
 
 pub exchange_passes : ExchangePasses
 unfolding transact_answer transact_reply
-exchange_passes s c command r v = (visits.exchange-passes (visit s c) command r v, six_bytes s c command r v)
+exchange_passes s c command r v = (visits.exchange_passes (visit s c) command r v, six_bytes s c command r v)
 
 pub exchange_accepted : ExchangeAccepted
 unfolding transact_answer transact_reply
-exchange_accepted s c command r v = visits.exchange-accepted (visit s c) command r v (no_block s command)
+exchange_accepted s c command r v = visits.exchange_accepted (visit s c) command r v (no_block s command)
 
 -- ---- its words are words
 
@@ -81,7 +81,7 @@ exchanged s c x =
 pub exchanges_apart : ExchangesApart
 unfolding transact_answer transact_reply
 exchanges_apart s t c d x y =
-    visits.exchanges-apart (visit s c) (visit t d) (exchanged s c x) (exchanged t d y)
+    visits.exchanges_apart (visit s c) (visit t d) (exchanged s c x) (exchanged t d y)
     (six_bytes s c x.command x.reads x.is-served ∙ sym (six_bytes t d y.command y.reads y.is-served))
 
 pub misheard : Misheard

@@ -1,1 +1,2 @@
 // What holds of the charger over calls and over its events: no code, only laws.
+#![tactic(auto)]

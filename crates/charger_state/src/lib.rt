@@ -1,4 +1,6 @@
 // The charger's state: what it keeps, the current that it gives, its words and its samples.
+#![tactic(auto)]
+
 ghost use Rattle.std.specs.Prelude.{◌≡◌, cond, ◌+◌, ◌≤◌, min};
 ghost use Rattle.charger_state.specs.Charger.{not_yet, set_up_of, sound_of, current_of, status_of, word_of, sample_of};
 

@@ -1,4 +1,6 @@
 // What a served write leaves of the charger.
+#![tactic(auto)]
+
 ghost use Rattle.std.specs.Prelude.{◌≡◌, ◌/◌, ◌%◌, ◌<◌, eqb};
 ghost use Rattle.charger_written.specs.Written.{taken_as, zeroed_if, awaited_if, mode_written, alarm_written, charger_written};
 

@@ -23,7 +23,7 @@ pub sendable : (p q : Pack) (x : Sample) → tank_sound p.tank ≡ true → rece
 unfolding moved_of
 sendable p q x h r e =
     let elapsed = elapsed_of x.counter p.latest.counter in
-    (ap (λ (m : Pack). tank_sound m.tank) e ∙ tank.after-sound p.settings p.tank (latest_of x) elapsed h, ap (λ (m : Pack). recent_sound m.recent) e ∙ recent.after-sound p.recent (latest_of x).current elapsed r)
+    (ap (λ (m : Pack). tank_sound m.tank) e ∙ tank.after_sound p.settings p.tank (latest_of x) elapsed h, ap (λ (m : Pack). recent_sound m.recent) e ∙ recent.after_sound p.recent (latest_of x).current elapsed r)
 
 -- what set_up chose stays
 pub same_choice : (p q : Pack) (x : Sample) → q ≡ moved_of p x → q.settings.plain ≡ p.settings.plain

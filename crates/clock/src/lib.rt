@@ -1,4 +1,6 @@
 // A sample: the tank, the recent minute, hold and timers move on; then come the broadcasts.
+#![tactic(auto)]
+
 ghost use Rattle.std.specs.Prelude.{◌≡◌, ◌≤◌, true, length};
 ghost use Rattle.clock.specs.Sample.{elapsed_of, moved_of};
 ghost use Rattle.broadcasts.specs.Broadcasts.{broadcast_of, least_room};

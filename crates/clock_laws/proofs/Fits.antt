@@ -30,7 +30,7 @@ tank_fits p x elapsed h f =
     let t = p.tank in
     let full = at_most (closed s t x elapsed) (learned t.run (seen_of s t x elapsed)) t.full 65535 (omega arith) (omega (arith, f.tank.full)) in
     record {
-      charge = omega (arith, full, (tank_facts (tank_after s t x elapsed) (tank.after-sound s t x elapsed h.tank)).charge);
+      charge = omega (arith, full, (tank_facts (tank_after s t x elapsed) (tank.after_sound s t x elapsed h.tank)).charge);
       full = omega (arith, full);
       CycleCount = omega arith;
       toward = omega (arith, f.settings.DesignCapacity, toward_fact s.DesignCapacity (tank_after s t x elapsed).toward (tank.toward-after s t x elapsed h.toward));

@@ -54,10 +54,10 @@ sampled_sound s x h =
     (pack-sound _
     (record {
       settings = f.settings;
-      tank = tank.after-sound s.pack.settings s.pack.tank (latest_of x) e f.tank;
+      tank = tank.after_sound s.pack.settings s.pack.tank (latest_of x) e f.tank;
       toward = tank.toward-after s.pack.settings s.pack.tank (latest_of x) e f.toward;
       run = tank.run-after s.pack.settings s.pack.tank (latest_of x) e;
-      recent = recent.after-sound s.pack.recent (latest_of x).current e f.recent;
+      recent = recent.after_sound s.pack.recent (latest_of x).current e f.recent;
       timers =
           timers-sound _ _
           (record {

@@ -1,4 +1,6 @@
 // The commands of the pack, each with its row, and the error code that an answer leaves. Only our own crates call these.
+#![tactic(auto)]
+
 ghost use Rattle.std.specs.Prelude.{◌≡◌};
 ghost use Rattle.commands.specs.Answers.{write_answer, code_after};
 ghost use Rattle.commands.specs.Commands.{kind_of};

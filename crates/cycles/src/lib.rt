@@ -1,4 +1,6 @@
 // The charge that a sample draws, and the cycles that it makes. Only our own crates call these.
+#![tactic(auto)]
+
 ghost use Rattle.std.specs.Prelude.{◌≡◌, cond, ◌*◌, ◌<◌, ◌≤◌};
 ghost use Rattle.cycles.specs.Cycles.{cycles_after, toward_after};
 ghost use Rattle.capacity.specs.Capacity.{milliamp_ms};

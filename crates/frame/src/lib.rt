@@ -1,5 +1,7 @@
 // What a request is, and how a reply with its PEC or a broadcast message is put into a lent room. Only our own crates call these.
 // It knows no register and no address of its own: an address is given by its write byte.
+#![tactic(auto)]
+
 ghost use Rattle.std.specs.Prelude.{◌≡◌, ◌+◌, ◌≤◌, ◌<◌, length};
 ghost use Rattle.std.proofs.lemmas.List.Edits.{sets};
 ghost use Rattle.frame.specs.Transactions.{request_of, write_of, reply_of, word_body, block_body};

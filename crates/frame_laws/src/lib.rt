@@ -1,1 +1,2 @@
 // The theorems on requests and replies, over the definitions of `frame`: no code, only laws.
+#![tactic(auto)]

@@ -1,4 +1,6 @@
 // The word of every register, with its answer. Only our own crates call these.
+#![tactic(auto)]
+
 ghost use Rattle.std.specs.Prelude.{◌≡◌, true};
 ghost use Rattle.gauge.specs.Word.{given_of, shown_of};
 ghost use Rattle.pack.specs.Sound.{sound_of};

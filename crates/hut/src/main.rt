@@ -1,10 +1,12 @@
 // The program that two old huts run: five minutes of a pack, a sample each second, and a line for each sample that
 // broadcasts: the second, then the bytes in hex. A host's write is a line too: its bytes, and the answer.
+#![tactic(auto)]
+
 ghost use Rattle.std.specs.Prelude.{◌≤◌};
 
-use libc::STDOUT_FILENO;
 use pack::{Sample, State};
 use start::Setup;
+use std::io;
 
 // What the hut measures while a phase lasts.
 #[derive(Clone, Copy)]
@@ -14,25 +16,15 @@ struct Measured {
     temperature: u16,
 }
 
-fn text(bytes: &[u8]) {
-    io::write_all(STDOUT_FILENO, bytes);
-}
-
-fn print_byte(b: u8) {
-    io::print_hex(STDOUT_FILENO, b as u64, 2);
-}
-
-fn print_bytes(bytes: &[u8]) {
-    let mut i = 0;
-    while i < bytes.len() {
-        print_byte(bytes[i]);
-        i += 1;
+fn print_bytes(rt: &impl Print, bytes: &[u8]) -> io::Result<()> {
+    for b in bytes {
+        print!(rt; "{b:02x}")?;
     }
+    Ok(())
 }
 
-fn print_second(second: u32) {
-    io::print_decimal(STDOUT_FILENO, second as u64);
-    text(b" ");
+fn print_second(rt: &impl Print, second: u32) -> io::Result<()> {
+    print!(rt; "{second} ")
 }
 
 // The counter at a second: it wraps in the second minute.
@@ -80,58 +72,63 @@ fn beginning() -> State {
 }
 
 // What stands in the room up to the length, if anything does.
-fn print_sent(second: u32, room: &[u8], length: usize) {
+fn print_sent(rt: &impl Print, second: u32, room: &[u8], length: usize) -> io::Result<()> {
     if length == 0 {
-        return;
+        return Ok(());
     }
     if length <= room.len() {
-        print_second(second);
-        print_bytes(&room[..length]);
-        text(b"\n");
+        print_second(rt, second)?;
+        print_bytes(rt, &room[..length])?;
+        println!(rt)?;
     }
+    Ok(())
 }
 
 // One sample; the state that it leaves comes back.
-fn tick(s: State, second: u32, m: Measured) -> State
+fn tick(rt: &impl Print, s: State, second: u32, m: Measured) -> io::Result<State>
     requires { second ≤ 300 }
 {
     let mut room = [0u8; 16];
     let out = clock::sample(s, sample_at(second, m), &mut room);
-    print_sent(second, &room, out.length);
-    out.state
+    print_sent(rt, second, &room, out.length)?;
+    Ok(out.state)
 }
 
 // A phase under its name: a sample each second after one second, to another.
-fn phase(s: State, name: &[u8], after: u32, last: u32, m: Measured) -> State
+fn phase(
+    rt: &impl Print,
+    s: State,
+    name: &str,
+    after: u32,
+    last: u32,
+    m: Measured,
+) -> io::Result<State>
     requires { last ≤ 300 }
 {
-    text(name);
-    text(b"\n");
+    println!(rt; "{name}")?;
     let mut now = s;
     let mut second = after;
     while second < last {
         second += 1;
-        now = tick(now, second, m);
+        now = tick(rt, now, second, m)?;
     }
-    now
+    Ok(now)
 }
 
 // A host's write, just after the sample of a second.
-fn write(s: State, second: u32, bytes: &[u8]) -> State {
+fn write(rt: &impl Print, s: State, second: u32, bytes: &[u8]) -> io::Result<State> {
     let none = [0u8; 1];
     let mut room = [0u8; 34];
     let out = bus::transact(s, &none, &none, false, bytes, &mut room);
-    print_second(second);
-    text(b"host ");
-    print_bytes(bytes);
-    text(b" ");
-    io::print_decimal(STDOUT_FILENO, out.answer as u64);
-    text(b"\n");
-    out.state
+    print_second(rt, second)?;
+    print!(rt; "host ")?;
+    print_bytes(rt, bytes)?;
+    println!(rt; " {}", out.answer)?;
+    Ok(out.state)
 }
 
 // The pack gets full and then hot; ALARM_MODE keeps it silent for a minute.
-fn on_the_charger(s: State) -> State {
+fn on_the_charger(rt: &impl Print, s: State) -> io::Result<State> {
     let charging = Measured {
         voltage: 16400,
         current: 1500,
@@ -147,14 +144,14 @@ fn on_the_charger(s: State) -> State {
         current: 600,
         temperature: 3190,
     };
-    let full = phase(s, b"charging", 0, 40, charging);
-    let warm = phase(full, b"hot", 40, 57, hot);
-    let held = write(warm, 57, b"\x16\x03\x00\x20");
-    phase(held, b"hot and charging", 57, 128, both)
+    let full = phase(rt, s, "charging", 0, 40, charging)?;
+    let warm = phase(rt, full, "hot", 40, 57, hot)?;
+    let held = write(rt, warm, 57, b"\x16\x03\x00\x20")?;
+    phase(rt, held, "hot and charging", 57, 128, both)
 }
 
 // CHARGER_MODE keeps charger words back; time, capacity and voltage run low.
-fn spraying(s: State) -> State {
+fn spraying(rt: &impl Print, s: State) -> io::Result<State> {
     let work = Measured {
         voltage: 13900,
         current: -12000,
@@ -165,28 +162,31 @@ fn spraying(s: State) -> State {
         current: -12000,
         temperature: 3080,
     };
-    let silent = write(s, 128, b"\x16\x03\x00\x40");
-    let refused = write(silent, 128, b"\x16\x02\x0a\x00\x46");
-    let told = write(refused, 128, b"\x16\x02\x0a\x00\x47");
-    let used = phase(told, b"spraying", 128, 215, work);
-    let asked = write(used, 215, b"\x16\x01\xa4\x06");
-    phase(asked, b"spraying on, the voltage low", 215, 233, low)
+    let silent = write(rt, s, 128, b"\x16\x03\x00\x40")?;
+    let refused = write(rt, silent, 128, b"\x16\x02\x0a\x00\x46")?;
+    let told = write(rt, refused, 128, b"\x16\x02\x0a\x00\x47")?;
+    let used = phase(rt, told, "spraying", 128, 215, work)?;
+    let asked = write(rt, used, 215, b"\x16\x01\xa4\x06")?;
+    phase(rt, asked, "spraying on, the voltage low", 215, 233, low)
 }
 
 // Charger words come again; alarms last until the host has both of its limits off.
-fn at_rest(s: State) -> State {
+fn at_rest(rt: &impl Print, s: State) -> io::Result<State> {
     let rest = Measured {
         voltage: 14200,
         current: 0,
         temperature: 3000,
     };
-    let heard = write(s, 233, b"\x16\x03\x00\x00");
-    let resting = phase(heard, b"at rest", 233, 275, rest);
-    let none = write(resting, 275, b"\x16\x01\x00\x00");
-    let quiet = write(none, 275, b"\x16\x02\x00\x00");
-    phase(quiet, b"at rest, no limits", 275, 300, rest)
+    let heard = write(rt, s, 233, b"\x16\x03\x00\x00")?;
+    let resting = phase(rt, heard, "at rest", 233, 275, rest)?;
+    let none = write(rt, resting, 275, b"\x16\x01\x00\x00")?;
+    let quiet = write(rt, none, 275, b"\x16\x02\x00\x00")?;
+    phase(rt, quiet, "at rest, no limits", 275, 300, rest)
 }
 
-fn main() {
-    at_rest(spraying(on_the_charger(beginning())));
+fn main(rt: HostRuntime) -> io::Result<()> {
+    let charged = on_the_charger(&rt, beginning())?;
+    let sprayed = spraying(&rt, charged)?;
+    at_rest(&rt, sprayed)?;
+    Ok(())
 }

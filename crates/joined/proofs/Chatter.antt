@@ -57,7 +57,7 @@ module _ (j k : Joint) (h : SameJoint j k) where
   idle_keeps : (e : Happening) → is_idle_on_bus j e ≡ true → SameJoint (happen j e) k
   idle_keeps (tick t) i = absurd (true≢false (sym i))
   idle_keeps (host c) i = record { pack = pack_step.keeps j.pack k.pack (call c) h.pack i; charger = h.charger }
-  idle_keeps (asks c) i = record { pack = h.pack; charger = (chargers.idle-event j.charger (charger.call c) i).0 ∙ h.charger }
+  idle_keeps (asks c) i = record { pack = h.pack; charger = (chargers.idle_event j.charger (charger.call c) i).0 ∙ h.charger }
 
 step_law : StepLaw joint_party
 step_law =

@@ -1,4 +1,6 @@
 // Pack keys: what bytes are one, and how they are read (document 01, "Key").
+#![tactic(auto)]
+
 ghost use Rattle.std.specs.Prelude.{◌≡◌, ◌+◌, ◌≤◌, length, drop};
 ghost use Rattle.std.proofs.Math.Option.{none};
 ghost use Rattle.key.specs.Key.{digit_value, is_word, digits_word, is_words, read_key, read_of, found_of, maker_of, device_of, device_start};

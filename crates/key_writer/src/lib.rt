@@ -1,4 +1,6 @@
 // The writer of pack keys: escape before you join (document 01, "Key").
+#![tactic(auto)]
+
 ghost use Rattle.std.specs.Prelude.{◌≡◌, ◌+◌, ◌*◌, ◌<◌, ◌≤◌, length};
 ghost use Rattle.std.proofs.lemmas.List.Edits.{sets};
 ghost use Rattle.names.specs.Names.{escape, escape_byte};

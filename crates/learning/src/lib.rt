@@ -1,4 +1,6 @@
 // A run, a discharge from full, and the full capacity that its close teaches. Only our own crates call these.
+#![tactic(auto)]
+
 ghost use Rattle.std.specs.Prelude.{◌≡◌, ◌*◌, ◌≤◌};
 ghost use Rattle.learning.specs.Learning.{closes, counts_on, drawn_in, run_after, learned};
 ghost use Rattle.capacity.specs.Capacity.{milliamp_ms};

@@ -1,4 +1,6 @@
 // Capacity by rate: minutes, beyond the range, or not moving that way; and what a register gives, with its word and its answer. Only our own crates call these.
+#![tactic(auto)]
+
 ghost use Rattle.std.specs.Prelude.{◌≡◌};
 ghost use Rattle.minutes.specs.Minutes.{time_of, time_word, was_cut_off, given_word, given_answer};
 

@@ -1,13 +1,15 @@
 // Monday's figures of a table of packs, read from standard input: a line for each pack, with its remaining, full and
 // design mAh and its cycle count, decimal numbers of 0 to 65535 with spaces or tabs between them. Empty lines and lines
 // that start with `#` are passed over.
+#![tactic(auto)]
+
 ghost use Rattle.std.specs.Prelude.{◌+◌, ◌≤◌, ◌<◌, ◌^◌, ◌≡◌, take};
 ghost use Rattle.shelf.specs.Shelf.{report_of};
 ghost use Rattle.monday.specs.Numbers.{appended};
 
-use libc::{STDIN_FILENO, STDOUT_FILENO};
 use shelf::Row;
 use shelf_row::{Figures, Lowest};
+use std::io;
 
 // A number with a digit more.
 #[derive(Clone, Copy)]
@@ -247,7 +249,7 @@ fn read(bytes: &[u8]) -> Table
     with_line(t, line)
 }
 
-// The one place that makes a slice of rows: its proof is a walk by hand.
+// The one place that makes a slice of rows.
 fn figures_of(rows: [Row; 65], count: usize) -> Figures
     requires { count ≤ 65 }
     ensures { result ≡ report_of (take count rows) }
@@ -255,69 +257,51 @@ fn figures_of(rows: [Row; 65], count: usize) -> Figures
     shelf::report(&rows[..count])
 }
 
-fn text(bytes: &[u8]) {
-    io::write_all(STDOUT_FILENO, bytes);
-}
-
-fn print_number(n: u64) {
-    io::print_decimal(STDOUT_FILENO, n);
-}
-
 // A line: what it is of, the number, and what follows.
-fn print_line(of: &[u8], n: u32, rest: &[u8]) {
-    text(of);
-    print_number(n as u64);
-    text(rest);
+fn print_line(rt: &impl Print, of: &str, n: u32, rest: &str) -> io::Result<()> {
+    println!(rt; "{of} {n}{rest}")
 }
 
-fn print_lowest(lowest: Lowest) {
+fn print_lowest(rt: &impl Print, lowest: Lowest) -> io::Result<()> {
     match lowest {
         Lowest::At(remaining, full, place) => {
-            print_line(b"lowest ", remaining as u32, b" of ");
-            print_number(full as u64);
-            print_line(b" mAh, place ", place, b"\n");
+            println!(rt; "lowest {remaining} of {full} mAh, place {place}")
         }
-        Lowest::None => text(b"no lowest row\n"),
+        Lowest::None => println!(rt; "no lowest row"),
     }
 }
 
-fn print_figures(t: Figures) {
+fn print_figures(rt: &impl Print, t: Figures) -> io::Result<()> {
     if t.answer == 16 {
-        text(b"16: more than 64 rows\n");
-        return;
+        return println!(rt; "16: more than 64 rows");
     }
     if t.answer == 17 {
-        text(b"17: a row whose full or design is 0 or whose remaining exceeds full\n");
-        return;
+        return println!(rt; "17: a row whose full or design is 0 or whose remaining exceeds full");
     }
-    print_line(b"packs ", t.packs, b"\n");
-    print_line(b"total remaining ", t.remaining, b" mAh\n");
-    print_line(b"total full ", t.full, b" mAh\n");
+    print_line(rt, "packs", t.packs, "")?;
+    print_line(rt, "total remaining", t.remaining, " mAh")?;
+    print_line(rt, "total full", t.full, " mAh")?;
     let lowest = t.lowest;
-    print_lowest(lowest);
-    print_line(b"below one fifth ", t.low, b"\n");
+    print_lowest(rt, lowest)?;
+    print_line(rt, "below one fifth", t.low, "")
 }
 
 // A line that isn't right is told before any answer, 16 too, and nothing else is printed.
-fn tell(bytes: &[u8]) {
+fn tell(rt: &impl Print, bytes: &[u8]) -> io::Result<()> {
     let t = read(bytes);
     if t.fault != 0 {
-        text(b"line ");
-        print_number(t.fault as u64);
-        text(b": not four numbers of 0 to 65535\n");
-        return;
+        return println!(rt; "line {}: not four numbers of 0 to 65535", t.fault);
     }
     let rows = t.rows;
-    print_figures(figures_of(rows, t.count));
+    print_figures(rt, figures_of(rows, t.count))
 }
 
 // A table takes less than 16,384 bytes, of which 64 of the longest rows take 1,536.
-fn main() {
+fn main(rt: HostRuntime) -> io::Result<()> {
     let mut bytes = [0u8; 16384];
-    let n = io::read_full(STDIN_FILENO, &mut bytes);
+    let n = lines::read_full(&rt, &mut bytes)?;
     if 16384 <= n {
-        text(b"the table is too long\n");
-        return;
+        return println!(rt; "the table is too long");
     }
-    tell(&bytes[..n]);
+    tell(&rt, &bytes[..n])
 }

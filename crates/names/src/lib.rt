@@ -1,4 +1,6 @@
 // A name as a key has it, escaped: how it is read, and read back plain (document 01, "Key").
+#![tactic(auto)]
+
 ghost use Rattle.std.specs.Prelude.{◌≡◌, ◌-◌, ◌<◌, ◌≤◌, length, drop};
 ghost use Rattle.std.proofs.lemmas.List.Edits.{sets};
 ghost use Rattle.names.specs.Names.{marked, escape, read_plain, read_escaped, name_in, plain_wrote, plain_room};

@@ -8,11 +8,11 @@ use Rattle.area.specs.contracts.store as store_owed
 use Rattle.area.specs.contracts.is_area as is_area_owed
 use Rattle.area.specs.contracts.load as load_owed
 
-pub store_settled : Settled (λ M. store_owed.clauses {M = M}) store_terms
+pub store_settled : Settled (λ M 𝓤. store_owed.clauses {M = M} {𝓤 = 𝓤}) store_terms
 store_settled = settled store_terms (λ M 𝓤 𝓛 memory run. refl)
 
-pub is_area_settled : Settled (λ M. is_area_owed.clauses {M = M}) is_area_terms
+pub is_area_settled : Settled (λ M 𝓤. is_area_owed.clauses {M = M} {𝓤 = 𝓤}) is_area_terms
 is_area_settled = settled is_area_terms (λ M 𝓤 𝓛 memory run. refl)
 
-pub load_settled : Settled (λ M. load_owed.clauses {M = M}) load_terms
+pub load_settled : Settled (λ M 𝓤. load_owed.clauses {M = M} {𝓤 = 𝓤}) load_terms
 load_settled = settled load_terms (λ M 𝓤 𝓛 memory run. refl)

@@ -14,29 +14,29 @@ use Rattle.charger_area.specs.contracts.store as charger_store_owed
 use Rattle.charger_area.specs.contracts.is_area as charger_is_area_owed
 use Rattle.charger_area.specs.contracts.load as charger_load_owed
 
-pub charger_set_up_settled : Settled (λ M. charger_set_up_owed.clauses {M = M}) charger_set_up_terms
+pub charger_set_up_settled : Settled (λ M 𝓤. charger_set_up_owed.clauses {M = M} {𝓤 = 𝓤}) charger_set_up_terms
 charger_set_up_settled = settled charger_set_up_terms (λ M 𝓤 𝓛 memory run. refl)
 
-pub charger_sound_settled : Settled (λ M. charger_sound_owed.clauses {M = M}) charger_sound_terms
+pub charger_sound_settled : Settled (λ M 𝓤. charger_sound_owed.clauses {M = M} {𝓤 = 𝓤}) charger_sound_terms
 charger_sound_settled = settled charger_sound_terms (λ M 𝓤 𝓛 memory run. refl)
 
-pub charger_current_settled : Settled (λ M. charger_current_owed.clauses {M = M}) charger_current_terms
+pub charger_current_settled : Settled (λ M 𝓤. charger_current_owed.clauses {M = M} {𝓤 = 𝓤}) charger_current_terms
 charger_current_settled = settled charger_current_terms (λ M 𝓤 𝓛 memory run. refl)
 
-pub charger_sample_settled : Settled (λ M. charger_sample_owed.clauses {M = M}) charger_sample_terms
+pub charger_sample_settled : Settled (λ M 𝓤. charger_sample_owed.clauses {M = M} {𝓤 = 𝓤}) charger_sample_terms
 charger_sample_settled = settled charger_sample_terms (λ M 𝓤 𝓛 memory run. refl)
 
-pub charger_transact_settled : Settled (λ M. charger_transact_owed.clauses {M = M}) charger_transact_terms
+pub charger_transact_settled : Settled (λ M 𝓤. charger_transact_owed.clauses {M = M} {𝓤 = 𝓤}) charger_transact_terms
 charger_transact_settled = settled charger_transact_terms (λ M 𝓤 𝓛 memory run. refl)
 
-pub charger_message_settled : Settled (λ M. charger_message_owed.clauses {M = M}) charger_message_terms
+pub charger_message_settled : Settled (λ M 𝓤. charger_message_owed.clauses {M = M} {𝓤 = 𝓤}) charger_message_terms
 charger_message_settled = settled charger_message_terms (λ M 𝓤 𝓛 memory run. refl)
 
-pub charger_store_settled : Settled (λ M. charger_store_owed.clauses {M = M}) charger_store_terms
+pub charger_store_settled : Settled (λ M 𝓤. charger_store_owed.clauses {M = M} {𝓤 = 𝓤}) charger_store_terms
 charger_store_settled = settled charger_store_terms (λ M 𝓤 𝓛 memory run. refl)
 
-pub charger_is_area_settled : Settled (λ M. charger_is_area_owed.clauses {M = M}) charger_is_area_terms
+pub charger_is_area_settled : Settled (λ M 𝓤. charger_is_area_owed.clauses {M = M} {𝓤 = 𝓤}) charger_is_area_terms
 charger_is_area_settled = settled charger_is_area_terms (λ M 𝓤 𝓛 memory run. refl)
 
-pub charger_load_settled : Settled (λ M. charger_load_owed.clauses {M = M}) charger_load_terms
+pub charger_load_settled : Settled (λ M 𝓤. charger_load_owed.clauses {M = M} {𝓤 = 𝓤}) charger_load_terms
 charger_load_settled = settled charger_load_terms (λ M 𝓤 𝓛 memory run. refl)

@@ -32,83 +32,83 @@ use Rattle.snatchblock.specs.contracts.snatchblock_thirteen_sound as snatchblock
 use Rattle.snatchblock.specs.contracts.snatchblock_thirteen_sample as snatchblock_thirteen_sample_owed
 use Rattle.snatchblock.specs.contracts.snatchblock_thirteen_transact as snatchblock_thirteen_transact_owed
 
-pub snatchblock_pec_settled : Settled (λ M. snatchblock_pec_owed.clauses {M = M}) snatchblock_pec_terms
+pub snatchblock_pec_settled : Settled (λ M 𝓤. snatchblock_pec_owed.clauses {M = M} {𝓤 = 𝓤}) snatchblock_pec_terms
 snatchblock_pec_settled = settled snatchblock_pec_terms (λ M 𝓤 𝓛 memory run. refl)
 
-pub snatchblock_exchange_check_settled : Settled (λ M. snatchblock_exchange_check_owed.clauses {M = M}) snatchblock_exchange_check_terms
+pub snatchblock_exchange_check_settled : Settled (λ M 𝓤. snatchblock_exchange_check_owed.clauses {M = M} {𝓤 = 𝓤}) snatchblock_exchange_check_terms
 snatchblock_exchange_check_settled = settled snatchblock_exchange_check_terms (λ M 𝓤 𝓛 memory run. refl)
 
-pub snatchblock_bit_comparison_settled : Settled (λ M. snatchblock_bit_comparison_owed.clauses {M = M}) snatchblock_bit_comparison_terms
+pub snatchblock_bit_comparison_settled : Settled (λ M 𝓤. snatchblock_bit_comparison_owed.clauses {M = M} {𝓤 = 𝓤}) snatchblock_bit_comparison_terms
 snatchblock_bit_comparison_settled = settled snatchblock_bit_comparison_terms (λ M 𝓤 𝓛 memory run. refl)
 
-pub snatchblock_write_key_settled : Settled (λ M. snatchblock_write_key_owed.clauses {M = M}) snatchblock_write_key_terms
+pub snatchblock_write_key_settled : Settled (λ M 𝓤. snatchblock_write_key_owed.clauses {M = M} {𝓤 = 𝓤}) snatchblock_write_key_terms
 snatchblock_write_key_settled = settled snatchblock_write_key_terms (λ M 𝓤 𝓛 memory run. refl)
 
-pub snatchblock_read_key_settled : Settled (λ M. snatchblock_read_key_owed.clauses {M = M}) snatchblock_read_key_terms
+pub snatchblock_read_key_settled : Settled (λ M 𝓤. snatchblock_read_key_owed.clauses {M = M} {𝓤 = 𝓤}) snatchblock_read_key_terms
 snatchblock_read_key_settled = settled snatchblock_read_key_terms (λ M 𝓤 𝓛 memory run. refl)
 
-pub snatchblock_unescape_settled : Settled (λ M. snatchblock_unescape_owed.clauses {M = M}) snatchblock_unescape_terms
+pub snatchblock_unescape_settled : Settled (λ M 𝓤. snatchblock_unescape_owed.clauses {M = M} {𝓤 = 𝓤}) snatchblock_unescape_terms
 snatchblock_unescape_settled = settled snatchblock_unescape_terms (λ M 𝓤 𝓛 memory run. refl)
 
-pub snatchblock_write_sheet_settled : Settled (λ M. snatchblock_write_sheet_owed.clauses {M = M}) snatchblock_write_sheet_terms
+pub snatchblock_write_sheet_settled : Settled (λ M 𝓤. snatchblock_write_sheet_owed.clauses {M = M} {𝓤 = 𝓤}) snatchblock_write_sheet_terms
 snatchblock_write_sheet_settled = settled snatchblock_write_sheet_terms (λ M 𝓤 𝓛 memory run. refl)
 
-pub snatchblock_set_body_settled : Settled (λ M. snatchblock_set_body_owed.clauses {M = M}) snatchblock_set_body_terms
+pub snatchblock_set_body_settled : Settled (λ M 𝓤. snatchblock_set_body_owed.clauses {M = M} {𝓤 = 𝓤}) snatchblock_set_body_terms
 snatchblock_set_body_settled = settled snatchblock_set_body_terms (λ M 𝓤 𝓛 memory run. refl)
 
-pub snatchblock_remove_body_settled : Settled (λ M. snatchblock_remove_body_owed.clauses {M = M}) snatchblock_remove_body_terms
+pub snatchblock_remove_body_settled : Settled (λ M 𝓤. snatchblock_remove_body_owed.clauses {M = M} {𝓤 = 𝓤}) snatchblock_remove_body_terms
 snatchblock_remove_body_settled = settled snatchblock_remove_body_terms (λ M 𝓤 𝓛 memory run. refl)
 
-pub snatchblock_is_sheet_settled : Settled (λ M. snatchblock_is_sheet_owed.clauses {M = M}) snatchblock_is_sheet_terms
+pub snatchblock_is_sheet_settled : Settled (λ M 𝓤. snatchblock_is_sheet_owed.clauses {M = M} {𝓤 = 𝓤}) snatchblock_is_sheet_terms
 snatchblock_is_sheet_settled = settled snatchblock_is_sheet_terms (λ M 𝓤 𝓛 memory run. refl)
 
-pub snatchblock_block_settled : Settled (λ M. snatchblock_block_owed.clauses {M = M}) snatchblock_block_terms
+pub snatchblock_block_settled : Settled (λ M 𝓤. snatchblock_block_owed.clauses {M = M} {𝓤 = 𝓤}) snatchblock_block_terms
 snatchblock_block_settled = settled snatchblock_block_terms (λ M 𝓤 𝓛 memory run. refl)
 
-pub snatchblock_open_capture_settled : Settled (λ M. snatchblock_open_capture_owed.clauses {M = M}) snatchblock_open_capture_terms
+pub snatchblock_open_capture_settled : Settled (λ M 𝓤. snatchblock_open_capture_owed.clauses {M = M} {𝓤 = 𝓤}) snatchblock_open_capture_terms
 snatchblock_open_capture_settled = settled snatchblock_open_capture_terms (λ M 𝓤 𝓛 memory run. refl)
 
-pub snatchblock_step_capture_settled : Settled (λ M. snatchblock_step_capture_owed.clauses {M = M}) snatchblock_step_capture_terms
+pub snatchblock_step_capture_settled : Settled (λ M 𝓤. snatchblock_step_capture_owed.clauses {M = M} {𝓤 = 𝓤}) snatchblock_step_capture_terms
 snatchblock_step_capture_settled = settled snatchblock_step_capture_terms (λ M 𝓤 𝓛 memory run. refl)
 
-pub snatchblock_shelf_report_settled : Settled (λ M. snatchblock_shelf_report_owed.clauses {M = M}) snatchblock_shelf_report_terms
+pub snatchblock_shelf_report_settled : Settled (λ M 𝓤. snatchblock_shelf_report_owed.clauses {M = M} {𝓤 = 𝓤}) snatchblock_shelf_report_terms
 snatchblock_shelf_report_settled = settled snatchblock_shelf_report_terms (λ M 𝓤 𝓛 memory run. refl)
 
-pub snatchblock_set_up_settled : Settled (λ M. snatchblock_set_up_owed.clauses {M = M}) snatchblock_set_up_terms
+pub snatchblock_set_up_settled : Settled (λ M 𝓤. snatchblock_set_up_owed.clauses {M = M} {𝓤 = 𝓤}) snatchblock_set_up_terms
 snatchblock_set_up_settled = settled snatchblock_set_up_terms (λ M 𝓤 𝓛 memory run. refl)
 
-pub snatchblock_sound_settled : Settled (λ M. snatchblock_sound_owed.clauses {M = M}) snatchblock_sound_terms
+pub snatchblock_sound_settled : Settled (λ M 𝓤. snatchblock_sound_owed.clauses {M = M} {𝓤 = 𝓤}) snatchblock_sound_terms
 snatchblock_sound_settled = settled snatchblock_sound_terms (λ M 𝓤 𝓛 memory run. refl)
 
-pub snatchblock_sample_settled : Settled (λ M. snatchblock_sample_owed.clauses {M = M}) snatchblock_sample_terms
+pub snatchblock_sample_settled : Settled (λ M 𝓤. snatchblock_sample_owed.clauses {M = M} {𝓤 = 𝓤}) snatchblock_sample_terms
 snatchblock_sample_settled = settled snatchblock_sample_terms (λ M 𝓤 𝓛 memory run. refl)
 
-pub snatchblock_transact_settled : Settled (λ M. snatchblock_transact_owed.clauses {M = M}) snatchblock_transact_terms
+pub snatchblock_transact_settled : Settled (λ M 𝓤. snatchblock_transact_owed.clauses {M = M} {𝓤 = 𝓤}) snatchblock_transact_terms
 snatchblock_transact_settled = settled snatchblock_transact_terms (λ M 𝓤 𝓛 memory run. refl)
 
-pub snatchblock_charger_set_up_settled : Settled (λ M. snatchblock_charger_set_up_owed.clauses {M = M}) snatchblock_charger_set_up_terms
+pub snatchblock_charger_set_up_settled : Settled (λ M 𝓤. snatchblock_charger_set_up_owed.clauses {M = M} {𝓤 = 𝓤}) snatchblock_charger_set_up_terms
 snatchblock_charger_set_up_settled = settled snatchblock_charger_set_up_terms (λ M 𝓤 𝓛 memory run. refl)
 
-pub snatchblock_charger_sound_settled : Settled (λ M. snatchblock_charger_sound_owed.clauses {M = M}) snatchblock_charger_sound_terms
+pub snatchblock_charger_sound_settled : Settled (λ M 𝓤. snatchblock_charger_sound_owed.clauses {M = M} {𝓤 = 𝓤}) snatchblock_charger_sound_terms
 snatchblock_charger_sound_settled = settled snatchblock_charger_sound_terms (λ M 𝓤 𝓛 memory run. refl)
 
-pub snatchblock_charger_sample_settled : Settled (λ M. snatchblock_charger_sample_owed.clauses {M = M}) snatchblock_charger_sample_terms
+pub snatchblock_charger_sample_settled : Settled (λ M 𝓤. snatchblock_charger_sample_owed.clauses {M = M} {𝓤 = 𝓤}) snatchblock_charger_sample_terms
 snatchblock_charger_sample_settled = settled snatchblock_charger_sample_terms (λ M 𝓤 𝓛 memory run. refl)
 
-pub snatchblock_charger_transact_settled : Settled (λ M. snatchblock_charger_transact_owed.clauses {M = M}) snatchblock_charger_transact_terms
+pub snatchblock_charger_transact_settled : Settled (λ M 𝓤. snatchblock_charger_transact_owed.clauses {M = M} {𝓤 = 𝓤}) snatchblock_charger_transact_terms
 snatchblock_charger_transact_settled = settled snatchblock_charger_transact_terms (λ M 𝓤 𝓛 memory run. refl)
 
-pub snatchblock_charger_current_settled : Settled (λ M. snatchblock_charger_current_owed.clauses {M = M}) snatchblock_charger_current_terms
+pub snatchblock_charger_current_settled : Settled (λ M 𝓤. snatchblock_charger_current_owed.clauses {M = M} {𝓤 = 𝓤}) snatchblock_charger_current_terms
 snatchblock_charger_current_settled = settled snatchblock_charger_current_terms (λ M 𝓤 𝓛 memory run. refl)
 
-pub snatchblock_thirteen_set_up_settled : Settled (λ M. snatchblock_thirteen_set_up_owed.clauses {M = M}) snatchblock_thirteen_set_up_terms
+pub snatchblock_thirteen_set_up_settled : Settled (λ M 𝓤. snatchblock_thirteen_set_up_owed.clauses {M = M} {𝓤 = 𝓤}) snatchblock_thirteen_set_up_terms
 snatchblock_thirteen_set_up_settled = settled snatchblock_thirteen_set_up_terms (λ M 𝓤 𝓛 memory run. refl)
 
-pub snatchblock_thirteen_sound_settled : Settled (λ M. snatchblock_thirteen_sound_owed.clauses {M = M}) snatchblock_thirteen_sound_terms
+pub snatchblock_thirteen_sound_settled : Settled (λ M 𝓤. snatchblock_thirteen_sound_owed.clauses {M = M} {𝓤 = 𝓤}) snatchblock_thirteen_sound_terms
 snatchblock_thirteen_sound_settled = settled snatchblock_thirteen_sound_terms (λ M 𝓤 𝓛 memory run. refl)
 
-pub snatchblock_thirteen_sample_settled : Settled (λ M. snatchblock_thirteen_sample_owed.clauses {M = M}) snatchblock_thirteen_sample_terms
+pub snatchblock_thirteen_sample_settled : Settled (λ M 𝓤. snatchblock_thirteen_sample_owed.clauses {M = M} {𝓤 = 𝓤}) snatchblock_thirteen_sample_terms
 snatchblock_thirteen_sample_settled = settled snatchblock_thirteen_sample_terms (λ M 𝓤 𝓛 memory run. refl)
 
-pub snatchblock_thirteen_transact_settled : Settled (λ M. snatchblock_thirteen_transact_owed.clauses {M = M}) snatchblock_thirteen_transact_terms
+pub snatchblock_thirteen_transact_settled : Settled (λ M 𝓤. snatchblock_thirteen_transact_owed.clauses {M = M} {𝓤 = 𝓤}) snatchblock_thirteen_transact_terms
 snatchblock_thirteen_transact_settled = settled snatchblock_thirteen_transact_terms (λ M 𝓤 𝓛 memory run. refl)

@@ -13,26 +13,26 @@ use Rattle.key.specs.contracts.maker_part as maker_part_owed
 use Rattle.key.specs.contracts.device_part as device_part_owed
 use Rattle.key_writer.specs.contracts.write_key as write_key_owed
 
-pub is_marked_settled : Settled (λ M. is_marked_owed.clauses {M = M}) is_marked_terms
+pub is_marked_settled : Settled (λ M 𝓤. is_marked_owed.clauses {M = M} {𝓤 = 𝓤}) is_marked_terms
 is_marked_settled = settled is_marked_terms (λ M 𝓤 𝓛 memory run. refl)
 
-pub stroke_settled : Settled (λ M. stroke_owed.clauses {M = M}) stroke_terms
+pub stroke_settled : Settled (λ M 𝓤. stroke_owed.clauses {M = M} {𝓤 = 𝓤}) stroke_terms
 stroke_settled = settled stroke_terms (λ M 𝓤 𝓛 memory run. refl)
 
-pub unescape_settled : Settled (λ M. unescape_owed.clauses {M = M}) unescape_terms
+pub unescape_settled : Settled (λ M 𝓤. unescape_owed.clauses {M = M} {𝓤 = 𝓤}) unescape_terms
 unescape_settled = settled unescape_terms (λ M 𝓤 𝓛 memory run. refl)
 
-pub find_settled : Settled (λ M. find_owed.clauses {M = M}) find_terms
+pub find_settled : Settled (λ M 𝓤. find_owed.clauses {M = M} {𝓤 = 𝓤}) find_terms
 find_settled = settled find_terms (λ M 𝓤 𝓛 memory run. refl)
 
-pub read_key_settled : Settled (λ M. read_key_owed.clauses {M = M}) read_key_terms
+pub read_key_settled : Settled (λ M 𝓤. read_key_owed.clauses {M = M} {𝓤 = 𝓤}) read_key_terms
 read_key_settled = settled read_key_terms (λ M 𝓤 𝓛 memory run. refl)
 
-pub maker_part_settled : Settled (λ M. maker_part_owed.clauses {M = M}) maker_part_terms
+pub maker_part_settled : Settled (λ M 𝓤. maker_part_owed.clauses {M = M} {𝓤 = 𝓤}) maker_part_terms
 maker_part_settled = settled maker_part_terms (λ M 𝓤 𝓛 memory run. refl)
 
-pub device_part_settled : Settled (λ M. device_part_owed.clauses {M = M}) device_part_terms
+pub device_part_settled : Settled (λ M 𝓤. device_part_owed.clauses {M = M} {𝓤 = 𝓤}) device_part_terms
 device_part_settled = settled device_part_terms (λ M 𝓤 𝓛 memory run. refl)
 
-pub write_key_settled : Settled (λ M. write_key_owed.clauses {M = M}) write_key_terms
+pub write_key_settled : Settled (λ M 𝓤. write_key_owed.clauses {M = M} {𝓤 = 𝓤}) write_key_terms
 write_key_settled = settled write_key_terms (λ M 𝓤 𝓛 memory run. refl)

@@ -13,7 +13,7 @@ use Rattle.std.proofs.Math.Option.{none, some}
 use Rattle.sheet.specs.contracts.is_sheet as is_sheet_owed
 use Rattle.sheet.specs.contracts.locate as locate_owed
 use Rattle.sheet.specs.contracts.block_answer as block_answer_owed
-use Rattle.sheet.specs.contracts.block as block_Owed
+use Rattle.sheet.specs.contracts.block as block_owed
 use Rattle.sheet_writer.specs.contracts.write_sheet as write_sheet_owed
 use Rattle.sheet_edit.specs.contracts.set as set_owed
 use Rattle.sheet_edit.specs.contracts.remove as remove_owed
@@ -40,7 +40,7 @@ block_answer_terms = terms_of
     (λ κs (service, (factory, _)). (block_answer service.now factory.now, tt))
 
 -- `block`
-abbrev pub block_terms : Terms block_Owed.ended
+abbrev pub block_terms : Terms block_owed.ended
 block_terms = terms_of
     (List ℕ ∷ (ℕ × ℕ) ∷ [])
     (λ κs r _. (r.now, (r.ref_ptr, tt)))

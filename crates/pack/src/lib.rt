@@ -1,4 +1,6 @@
 // The pack's state: what it remembers, when that is sound, and what a sample is kept as.
+#![tactic(auto)]
+
 ghost use Rattle.std.specs.Prelude.{◌≡◌};
 ghost use Rattle.pack.specs.Sound.{exactly, settings_sound, tank_sound, toward_sound, run_sound, timers_sound, error_sound, sound_of};
 ghost use Rattle.pack.specs.Kept.{latest_of};

@@ -1,4 +1,6 @@
 // Results of several numbers in one: the answer in the low byte, the rest above it.
+#![tactic(auto)]
+
 ghost use Rattle.std.specs.Prelude.{◌≡◌, ◌+◌, ◌-◌, ◌*◌, ◌<◌, ◌≤◌};
 ghost use Rattle.capture.specs.Capture.{capture_most};
 ghost use Rattle.packed.specs.Packed.{packed, one_if, check_number, comparison_number, wrote_number, edited_number, opened_number, key_number, located_number, step_number, RowFits};

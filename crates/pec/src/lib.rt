@@ -1,4 +1,6 @@
 // SMBus packet error codes: CRC-8 of x^8 + x^2 + x + 1, start 0, high bit first.
+#![tactic(auto)]
+
 ghost use Rattle.std.specs.Prelude.{◌≡◌, ◌≤◌, length};
 ghost use Rattle.pec.specs.Pec.{byte_step, pec_from, pec_of};
 ghost use Rattle.pec.specs.Table.{Remainders};

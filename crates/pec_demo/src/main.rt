@@ -1,10 +1,14 @@
 // The check byte of a message that is given as hex bytes: all arguments form one message, and an argument may hold several
 // bytes. With no argument, worked examples 1 to 4.
+#![tactic(auto)]
+
 ghost use Rattle.std.specs.Prelude.{◌≡◌};
 ghost use Rattle.pec.specs.Pec.{pec_from};
 ghost use Rattle.pec_demo.specs.Hex.{value_of, fault_of, byte_of, bytes_of};
 
-use libc::STDOUT_FILENO;
+use std::env::FillError;
+use std::io;
+use std::rt::Env;
 
 fn value(c: u8) -> u8
     ensures { result ≡ value_of c }
@@ -66,101 +70,98 @@ fn pec_of_text(start: u8, text: &[u8]) -> u8
     acc
 }
 
-fn print_byte(b: u8) {
-    io::print_hex(STDOUT_FILENO, b as u64, 2);
-    io::write_all(STDOUT_FILENO, b" ");
-}
-
-fn print_bytes(text: &[u8]) {
+fn print_bytes(rt: &impl Print, text: &[u8]) -> io::Result<()> {
     let mut i = 0;
     while 2 <= text.len() - i {
-        print_byte(byte(text[i], text[i + 1]));
+        let b = byte(text[i], text[i + 1]);
+        print!(rt; "{b:02x} ")?;
         i += 2;
     }
+    Ok(())
 }
 
-fn print_pec(acc: u8) {
-    io::write_all(STDOUT_FILENO, b"-> ");
-    io::print_hex(STDOUT_FILENO, acc as u64, 2);
-    io::write_all(STDOUT_FILENO, b"\n");
+fn print_pec(rt: &impl Print, acc: u8) -> io::Result<()> {
+    println!(rt; "-> {acc:02x}")
 }
 
-fn example(text: &[u8]) {
-    print_bytes(text);
-    print_pec(pec_of_text(0, text));
+fn example(rt: &impl Print, text: &[u8]) -> io::Result<()> {
+    print_bytes(rt, text)?;
+    print_pec(rt, pec_of_text(0, text))
 }
 
-fn examples() {
-    io::write_all(STDOUT_FILENO, b"no bytes ");
-    example(b"");
-    example(b"1680174d000100");
-    example(b"160917d039");
-    example(b"16020a00");
+fn examples(rt: &impl Print) -> io::Result<()> {
+    print!(rt; "no bytes ")?;
+    example(rt, b"")?;
+    example(rt, b"1680174d000100")?;
+    example(rt, b"160917d039")?;
+    example(rt, b"16020a00")
 }
 
-fn complain(i: usize, what: &[u8]) {
-    io::write_all(STDOUT_FILENO, b"argument ");
-    io::print_decimal(STDOUT_FILENO, i as u64);
-    io::write_all(STDOUT_FILENO, what);
+fn complain(rt: &impl Print, i: usize, what: &str) -> io::Result<()> {
+    println!(rt; "argument {i} {what}")
+}
+
+// How many arguments there are, the program's name among them.
+fn arg_count(rt: &impl Env) -> usize {
+    for i in 0..usize::MAX {
+        if let Err(FillError::NotPresent) = rt.arg(i, &mut []) {
+            return i;
+        }
+    }
+    usize::MAX
 }
 
 // Whether argument i is no hex text; then a line says why.
-fn refused(i: usize) -> bool {
-    let mut text = io::buffer();
-    let n = os::arg(i, &mut text);
-    if os::errno() != 0 {
-        complain(i, b" is too long\n");
-        return true;
-    }
+fn refused(rt: &(impl Env + Print), i: usize) -> io::Result<bool> {
+    let mut text = [0u8; 4096];
+    let Ok(n) = rt.arg(i, &mut text) else {
+        complain(rt, i, "is too long")?;
+        return Ok(true);
+    };
     let wrong = fault(&text[..n]);
     if wrong == 1 {
-        complain(i, b" has a character that is no hex digit\n");
-        return true;
+        complain(rt, i, "has a character that is no hex digit")?;
+        return Ok(true);
     }
     if wrong == 2 {
-        complain(i, b" has an odd number of hex digits\n");
-        return true;
+        complain(rt, i, "has an odd number of hex digits")?;
+        return Ok(true);
     }
-    false
+    Ok(false)
 }
 
-fn any_refused(count: usize) -> bool {
-    let mut i = 1;
-    while i < count {
-        if refused(i) {
-            return true;
+fn any_refused(rt: &(impl Env + Print), count: usize) -> io::Result<bool> {
+    for i in 1..count {
+        if refused(rt, i)? {
+            return Ok(true);
         }
-        i += 1;
     }
-    false
+    Ok(false)
 }
 
 // Prints the bytes of argument i, and answers the PEC after them.
-fn taken(acc: u8, i: usize) -> u8 {
-    let mut text = io::buffer();
-    let n = os::arg(i, &mut text);
-    print_bytes(&text[..n]);
-    pec_of_text(acc, &text[..n])
+fn taken(rt: &(impl Env + Print), acc: u8, i: usize) -> io::Result<u8> {
+    let mut text = [0u8; 4096];
+    let n = rt.arg(i, &mut text).unwrap_or(0);
+    print_bytes(rt, &text[..n])?;
+    Ok(pec_of_text(acc, &text[..n]))
 }
 
-fn message(count: usize) {
+fn message(rt: &(impl Env + Print), count: usize) -> io::Result<()> {
     let mut acc: u8 = 0;
-    let mut i = 1;
-    while i < count {
-        acc = taken(acc, i);
-        i += 1;
+    for i in 1..count {
+        acc = taken(rt, acc, i)?;
     }
-    print_pec(acc);
+    print_pec(rt, acc)
 }
 
-fn main() {
-    let count = os::arg_count();
+fn main(rt: HostRuntime) -> io::Result<()> {
+    let count = arg_count(&rt);
     if count < 2 {
-        examples();
-        return;
+        return examples(&rt);
     }
-    if any_refused(count) {
-        return;
+    if any_refused(&rt, count)? {
+        return Ok(());
     }
-    message(count);
+    message(&rt, count)
 }

@@ -1,24 +1,14 @@
 // Published figures, run through the public entries, a line each with its label: source 001's packets and the CRC-8
 // catalogue's figure, every command code's row, the words that 002 packs, document 01's twelve worked examples.
+#![tactic(auto)]
+
 ghost use Rattle.std.specs.Prelude.{◌≤◌};
 
 use bus::Transacted;
-use libc::STDOUT_FILENO;
 use pack::{Sample, State};
 use rooms::wide;
 use start::Setup;
-
-fn text(bytes: &[u8]) {
-    io::write_all(STDOUT_FILENO, bytes);
-}
-
-fn hex(n: usize, digits: usize) {
-    io::print_hex(STDOUT_FILENO, n as u64, digits);
-}
-
-fn decimal(n: usize) {
-    io::print_decimal(STDOUT_FILENO, n as u64);
-}
+use std::io;
 
 // ---- messages whose last byte is their check byte
 
@@ -40,44 +30,40 @@ fn last_byte(message: &[u8]) -> u8 {
     message[n - 1]
 }
 
-fn check(message: &[u8]) {
+fn check(rt: &impl Print, message: &[u8]) -> io::Result<()> {
     let checked = pec::exchange_check(message);
     if checked.answer != 0 {
-        text(b", refused\n");
-        return;
+        return println!(rt; ", refused");
     }
     if checked.right {
-        text(b", right\n");
+        println!(rt; ", right")
     } else {
-        text(b", WRONG\n");
+        println!(rt; ", WRONG")
     }
 }
 
 // Computed anew, compared, and put through the exchange check.
-fn compare(label: &[u8], message: &[u8]) {
+fn compare(rt: &impl Print, label: &str, message: &[u8]) -> io::Result<()> {
     let computed = pec_before_last(message);
     let published = last_byte(message);
-    text(label);
-    text(b": computed ");
-    hex(wide(computed), 2);
-    text(b", published ");
-    hex(wide(published), 2);
+    print!(rt; "{label}: computed {computed:02x}, published {published:02x}")?;
     if computed == published {
-        text(b": same");
+        print!(rt; ": same")?;
     } else {
-        text(b": DIFFERENT");
+        print!(rt; ": DIFFERENT")?;
     }
-    check(message);
+    check(rt, message)
 }
 
-fn packets() {
+fn packets(rt: &impl Print) -> io::Result<()> {
     compare(
-        b"firmware packet",
+        rt,
+        "firmware packet",
         b"\x16\xa1\x00\x01\x82\x00\x94\x4d\x82\x00\xb0\x8c\x82\x00\xb0\x8c\x82\x00\x99\xb4\
         \x82\x00\xb0\x8c\x82\x00\xb0\x8c\x82\x00\xb0\x8c\x82\x00\x99\xaf\x6f",
-    );
-    compare(b"version packet", b"\x16\x80\x17\x4d\x00\x01\x00\x98");
-    compare(b"CRC-8 catalogue, 123456789", b"123456789\xf4");
+    )?;
+    compare(rt, "version packet", b"\x16\x80\x17\x4d\x00\x01\x00\x98")?;
+    compare(rt, "CRC-8 catalogue, 123456789", b"123456789\xf4")
 }
 
 // ---- the pack
@@ -149,89 +135,83 @@ fn write_answer(command: u8) -> usize {
 }
 
 // The answers to sixteen reads, or sixteen writes, from a command on.
-fn sixteen(first: u8, read: bool)
+fn sixteen(rt: &impl Print, first: u8, read: bool) -> io::Result<()>
     requires { first ≤ 240 }
 {
     for k in 0..16u8 {
         let command = first + k;
         if read {
-            decimal(read_answer(command));
+            print!(rt; "{}", read_answer(command))?;
         } else {
-            decimal(write_answer(command));
+            print!(rt; "{}", write_answer(command))?;
         }
     }
+    Ok(())
 }
 
-fn row(first: u8)
+fn row(rt: &impl Print, first: u8) -> io::Result<()>
     requires { first ≤ 240 }
 {
-    text(b"commands from ");
-    hex(wide(first), 2);
-    text(b": read ");
-    sixteen(first, true);
-    text(b" write ");
-    sixteen(first, false);
-    text(b"\n");
+    print!(rt; "commands from {first:02x}: read ")?;
+    sixteen(rt, first, true)?;
+    print!(rt; " write ")?;
+    sixteen(rt, first, false)?;
+    println!(rt)
 }
 
-fn rows() {
+fn rows(rt: &impl Print) -> io::Result<()> {
     for high in 0..16u8 {
-        row(high * 16);
+        row(rt, high * 16)?;
     }
+    Ok(())
 }
 
 // ---- the words that 002 packs
 
-fn word(label: &[u8], command: u8) {
-    text(label);
-    hex(word_of(half_full(), command), 4);
-    text(b"\n");
+fn word(rt: &impl Print, label: &str, command: u8) -> io::Result<()> {
+    println!(rt; "{label} {:04x}", word_of(half_full(), command))
 }
 
-fn words() {
-    word(b"SpecificationInfo ", 0x1A);
-    word(b"ManufactureDate ", 0x1B);
-    word(b"SerialNumber ", 0x1C);
+fn words(rt: &impl Print) -> io::Result<()> {
+    word(rt, "SpecificationInfo", 0x1A)?;
+    word(rt, "ManufactureDate", 0x1B)?;
+    word(rt, "SerialNumber", 0x1C)
 }
 
 // ---- document 01's worked examples
 
-fn check_byte(label: &[u8], message: &[u8]) {
-    text(label);
-    hex(wide(pec::pec(message)), 2);
-    text(b"\n");
+fn check_byte(rt: &impl Print, label: &str, message: &[u8]) -> io::Result<()> {
+    println!(rt; "{label}: {:02x}", pec::pec(message))
 }
 
-fn number(label: &[u8], n: usize) {
-    text(label);
-    decimal(n);
-    text(b"\n");
+fn number(rt: &impl Print, label: &str, n: usize) -> io::Result<()> {
+    println!(rt; "{label}: {n}")
 }
 
 // The date that the pack shows, taken apart as 002 packs it: day, month, year.
-fn date(label: &[u8]) {
+fn date(rt: &impl Print, label: &str) -> io::Result<()> {
     let shown = word_of(half_full(), 0x1B);
-    text(label);
-    decimal(shown % 32);
-    text(b" ");
-    decimal(shown / 32 % 16);
-    text(b" ");
-    decimal(shown / 512 + 1980);
-    text(b"\n");
+    println!(rt;
+        "{label}: {} {} {}",
+        shown % 32,
+        shown / 32 % 16,
+        shown / 512 + 1980
+    )
 }
 
-fn front(room: &[u8], length: usize) {
+fn front(rt: &impl Print, room: &[u8], length: usize) -> io::Result<()> {
     if length <= room.len() {
-        text(&room[..length]);
+        rt.write_all(&room[..length])?;
     }
+    Ok(())
 }
 
-fn key_of(label: &[u8]) {
+fn key_of(rt: &impl Print, label: &str) -> io::Result<()> {
     let mut room = [0u8; 139];
     let wrote = key_writer::write_key(b"A/B", b"P7", 0x526f, 17, &mut room);
-    text(label);
-    front(&room, wrote.length);
-    text(b"\n");
+    print!(rt; "{label}: ")?;
+    front(rt, &room, wrote.length)?;
+    println!(rt)
 }
 
 // The state after a current flowed up to a reading of the counter.
@@ -257,28 +237,28 @@ fn elapsed() -> usize {
     clock::elapsed(4, 4294967290) as usize
 }
 
-fn check_bytes() {
-    check_byte(b"example 1: ", b"");
-    check_byte(b"example 2: ", b"\x16\x80\x17\x4d\x00\x01\x00");
-    check_byte(b"example 3: ", b"\x16\x09\x17\xd0\x39");
-    check_byte(b"example 4: ", b"\x16\x02\x0a\x00");
+fn check_bytes(rt: &impl Print) -> io::Result<()> {
+    check_byte(rt, "example 1", b"")?;
+    check_byte(rt, "example 2", b"\x16\x80\x17\x4d\x00\x01\x00")?;
+    check_byte(rt, "example 3", b"\x16\x09\x17\xd0\x39")?;
+    check_byte(rt, "example 4", b"\x16\x02\x0a\x00")
 }
 
-fn numbers() {
-    number(b"example 7: ", after(b"\x16\x04\x00\x80", 0x06));
-    number(b"example 8: ", after(b"\x16\x04\x00\x00", 0x06));
-    number(b"example 9: ", after(b"\x16\x04\xff\xff", 0x06));
-    number(b"example 10: ", after(b"\x16\x03\x00\x80", 0x0F));
-    number(b"example 11: ", elapsed());
-    number(b"example 12: ", average());
+fn numbers(rt: &impl Print) -> io::Result<()> {
+    number(rt, "example 7", after(b"\x16\x04\x00\x80", 0x06))?;
+    number(rt, "example 8", after(b"\x16\x04\x00\x00", 0x06))?;
+    number(rt, "example 9", after(b"\x16\x04\xff\xff", 0x06))?;
+    number(rt, "example 10", after(b"\x16\x03\x00\x80", 0x0F))?;
+    number(rt, "example 11", elapsed())?;
+    number(rt, "example 12", average())
 }
 
-fn main() {
-    packets();
-    rows();
-    words();
-    check_bytes();
-    date(b"example 5: ");
-    key_of(b"example 6: ");
-    numbers();
+fn main(rt: HostRuntime) -> io::Result<()> {
+    packets(&rt)?;
+    rows(&rt)?;
+    words(&rt)?;
+    check_bytes(&rt)?;
+    date(&rt, "example 5")?;
+    key_of(&rt, "example 6")?;
+    numbers(&rt)
 }

@@ -1,4 +1,6 @@
 // The recent minute: what set-up begins it with, when it is sound, and its average. (What a sample makes of it is `seconds`.)
+#![tactic(auto)]
+
 ghost use Rattle.std.specs.Prelude.{◌≡◌, ◌+◌, ◌*◌, ◌<◌, ◌≤◌, true, take, pos, ◌+ℤ◌, int_div};
 ghost use Rattle.std.proofs.Math.IntN.{sub_ℕ};
 ghost use Rattle.std.specs.Int.{w16, w32};

@@ -1,4 +1,6 @@
 // The words of modes, average, capacities and percents: pure functions of the pack. Only our own crates call these.
+#![tactic(auto)]
+
 ghost use Rattle.std.specs.Prelude.{◌≡◌, true, cond, ◌≤◌};
 ghost use Rattle.registers.specs.Registers.{battery_mode, average_current, capacity_of, remaining_capacity, full_charge_capacity, design_capacity, relative_state_of_charge, absolute_state_of_charge};
 ghost use Rattle.recent.specs.Recent.{recent_sound};

@@ -68,7 +68,7 @@ time_same =
 pub chatter_is_idle_from : ChatterIsIdleFrom
 chatter_is_idle_from s t es fs r h =
     record {
-      unmoved = chatter.chatter-is-idle pack_party pack_step s t es fs r h;
+      unmoved = chatter.chatter_is_idle pack_party pack_step s t es fs r h;
       broadcast = over_is_same pack_party adds_sent [] pack_step sent_same s t es fs r h;
       samples = over_is_same pack_party adds_taken [] pack_step taken_same s t es fs r h;
       elapsed = over_is_same pack_party adds_elapsed [] pack_step elapsed_same s t es fs r h;

@@ -53,7 +53,7 @@ refused-sample s x n i = not-true (accepted s (sample x n)) i
 pub idle_keeps : (s : State) (e : Event) → IdleEvent s e → (step s e).pack ≡ s.pack
 idle_keeps s (sample x n) i =
     outcome (λ r. eqb r.answer 0 ≡ false → r.state.pack ≡ s.pack) s x n (λ z. refl) (λ z. refl) (λ h z. absurd (true≢false z)) (refused-sample s x n i)
-idle_keeps s (call c) i = calls.idle-keeps s c (either c.read (served (answer s c)) i)
+idle_keeps s (call c) i = calls.idle_keeps s c (either c.read (served (answer s c)) i)
 
 pub idle_keep : IdleKeep
 idle_keep s [] i = refl

@@ -28,6 +28,7 @@ use Rattle.runs.specs.Events.{accepted_of, run}
 use Rattle.runs.specs.Promises.{MinuteSinceSetUp, AverageSinceSetUp}
 use Rattle.runs.specs.Since.{from_set_up, Measures, measures_of, measures_after, milliseconds, latest_current, Signed16}
 use Rattle.start.specs.SetUp.{pack_of}
+use Rattle.tank.specs.Tank.{tank_after}
 
 -- ---- the currents of all milliseconds are those of the samples
 
@@ -39,13 +40,19 @@ of_samples counter (x ∷ xs) f =
 
 -- ---- the minute
 
+-- what one sample makes of what a pack measures
+abbrev measured : Settings → Measures → Sample → Measures
+measured s m x =
+    let time = elapsed_of x.counter m.latest.counter in
+    record { latest = latest_of x; recent = recent_after m.recent (latest_of x).current time; tank = tank_after s m.tank (latest_of x) time }
+
 pub minute_after : (s : Settings) (m : Measures) (xs : List Sample) (l : List ℤ) → Currents l → Signed16 xs → m.recent ≡ recent_of l
     → (measures_after s m xs).recent ≡ recent_of (l ++ milliseconds m.latest.counter xs)
 minute_after s m [] l h f e = e ∙ ap recent_of (sym (append-nil l))
 minute_after s m (x ∷ xs) l h f e =
     let time = elapsed_of x.counter m.latest.counter in
     let new = replicate time x.current in
-    minute_after s _ xs (l ++ new) (currents_append l new h (currents_rep time x.current f.0)) f.1
+    minute_after s (measured s m x) xs (l ++ new) (currents_append l new h (currents_rep time x.current f.0)) f.1
     (ap (λ (r : Recent). recent_after r (latest_of x).current time) e ∙ one_more l x.current time h f.0)
     ∙ ap recent_of (append_assoc l new (milliseconds x.counter xs))
 
@@ -62,7 +69,7 @@ minute_since_set_up u first es a f =
 pub latest_after : (s : Settings) (m : Measures) (y : Sample) (xs : List Sample) → m.latest ≡ latest_of y
     → (measures_after s m xs).latest.current ≡ of_z w16 (latest_current y xs)
 latest_after s m y [] e = ap (λ (l : Latest). l.current) e
-latest_after s m y (x ∷ xs) e = latest_after s _ x xs refl
+latest_after s m y (x ∷ xs) e = latest_after s (measured s m x) x xs refl
 
 pub latest_fits : (y : Sample) (xs : List Sample) → Signed16 (y ∷ xs) → SFits w16 (latest_current y xs)
 latest_fits y [] f = f.0

@@ -1,4 +1,6 @@
 // What a sample makes of the recent minute: its current is shared among the seconds that its milliseconds cross.
+#![tactic(auto)]
+
 ghost use Rattle.std.specs.Prelude.{◌≡◌, ◌+◌, ◌≤◌, min, true, ◌∷◌, ◌++◌, take, replicate};
 ghost use Rattle.recent.specs.Recent.{recent_sound};
 ghost use Rattle.seconds.specs.Seconds.{flowed_of, recent_after};

@@ -1,4 +1,6 @@
 // Pack sheets: the test for one, and the block names that two sheets give.
+#![tactic(auto)]
+
 ghost use Rattle.std.specs.Prelude.{◌≡◌, true, ◌+◌, ◌*◌, ◌<◌, ◌≤◌, length};
 ghost use Rattle.sheet.specs.Sheet.{old, allows, row_ok, is_sheet};
 ghost use Rattle.sheet.specs.Block.{find_in, located_of, part_of, place_of, block_of, block_answer};

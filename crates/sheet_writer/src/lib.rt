@@ -1,4 +1,6 @@
 // The writer of pack sheets: a body or none for each of the tags 20 to 23, laid into a lent room.
+#![tactic(auto)]
+
 ghost use Rattle.std.specs.Prelude.{◌≡◌, cond, not, ◌||◌, ◌≤◌, leb, length};
 ghost use Rattle.sheet_writer.specs.Writing.{entry_if, choice, sheet_wrote, sheet_room};
 ghost use Rattle.sheet_writer.specs.Laying.{Place, Put};

@@ -1,4 +1,6 @@
 // A row of the shelf's table: what it does to Monday's figures of the rows before it. Only our own crates call these.
+#![tactic(auto)]
+
 ghost use Rattle.std.specs.Prelude.{◌≡◌, cond, ◌*◌, ◌<◌, ◌≤◌, min, ltb};
 ghost use Rattle.shelf_row.specs.Rows.{zeros, count_answer, is_bad, row_answer, is_low};
 ghost use Rattle.shelf_row.specs.Step.{first_given, lowest_with, figures_with, Fits};

@@ -1,4 +1,6 @@
-// The pack for programs in C: include/snatchblock.h says what each function answers.
+// The pack for programs in C: include/snatchblock.h says what each function answers, and the crate snatchblock_c exports it.
+#![tactic(auto)]
+
 ghost use Rattle.std.specs.Prelude.{◌≡◌};
 ghost use Rattle.std.proofs.Math.Option.{none, some};
 ghost use Rattle.calls.specs.Calls.{start_number, start_area, sound_in, sample_number, sample_area, sample_room, transact_number, transact_area, transact_room};

@@ -1,4 +1,6 @@
 // Set-up: the state at the first sample, or where it is refused the all-zero state.
+#![tactic(auto)]
+
 ghost use Rattle.std.specs.Prelude.{◌≡◌, ◌<◌, ◌≤◌};
 ghost use Rattle.start.specs.SetUp.{set_up_of, set_up_refused, pack_of, settings_of, host_of, tank_of, zero_settings, zero_host, zero_latest, zero_tank, zero_state};
 

@@ -1,4 +1,6 @@
 // 16 BatteryStatus bit by bit, and the word of an alarm. Only our own crates call these.
+#![tactic(auto)]
+
 ghost use Rattle.std.specs.Prelude.{◌≡◌, true, ◌≤◌};
 ghost use Rattle.pack.specs.Sound.{tank_sound};
 ghost use Rattle.recent.specs.Recent.{recent_sound};

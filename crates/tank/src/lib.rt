@@ -1,4 +1,6 @@
 // What a sample does to charge, cycles, the run, full and bit 4. Only our own crates call it.
+#![tactic(auto)]
+
 ghost use Rattle.std.specs.Prelude.{◌≡◌, true, cond, ◌+◌, ◌-◌, ◌*◌, ◌<◌, ◌≤◌, min};
 ghost use Rattle.tank.specs.Tank.{tank_after};
 ghost use Rattle.learning.specs.Learning.{learned};

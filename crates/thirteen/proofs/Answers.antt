@@ -30,7 +30,7 @@ pub refused_no_reply : (s : ThirteenState) (read : Bool) (bytes : List ℕ) (roo
     → transact_reply s read bytes room ≡ []
 unfolding transact_reply
 refused_no_reply s read bytes room n e v =
-    ap (λ (a : ℕ). side_reply (thirteen_side s) bytes (asked read bytes) a) e ∙ commands.refused-reply (thirteen_side s) bytes (asked read bytes) n v
+    ap (λ (a : ℕ). side_reply (thirteen_side s) bytes (asked read bytes) a) e ∙ commands.refused_reply (thirteen_side s) bytes (asked read bytes) n v
 
 pub refusal : (s : ThirteenState) (read : Bool) (bytes room : List ℕ) (n : ℕ) → transact_answer s read bytes (length room) ≡ n → served n ≡ false
     → Gives s read bytes room n []

@@ -1,4 +1,6 @@
 // The thirteen-cell pack's state in a lent area of bytes: stored, tested and loaded, part by part.
+#![tactic(auto)]
+
 ghost use Rattle.std.specs.Prelude.{◌≡◌, length};
 ghost use Rattle.numbers.specs.Numbers.{bytes_taken};
 ghost use Rattle.thirteen_area.specs.Area.{fixed_widths, fixed_bytes, fixed_in, cells_widths, cells_bytes, cells_in, level_widths, level_bytes, level_in, is_level, thirteen_length, thirteen_area_of, state_in, is_thirteen_area, loaded, loaded_of, stored_of, stored_room};

@@ -1,4 +1,6 @@
 // The thirteen-cell pack in a lent area of bytes: what each call answers, and what it leaves in the area and in the room.
+#![tactic(auto)]
+
 ghost use Rattle.std.specs.Prelude.{◌≡◌, ◌≤◌, length};
 ghost use Rattle.thirteen_area.specs.Area.{thirteen_length};
 ghost use Rattle.thirteen_calls.specs.Calls.{start_number, start_area, sound_in, area_after, error_stored, sample_number, sample_area, transact_number, transact_area, transact_room};

@@ -75,4 +75,4 @@ pub chatter_is_idle : ChatterIsIdle
 chatter_is_idle u health first cells es fs a r =
     let s = from_set_up u health first cells in
     let k : sound_of s ≡ true = sound_when_served u health first cells ∙ ap (λ (n : ℕ). eqb n 0) a in
-    chatter.chatter-is-idle thirteen_party step_law s s es fs r (record { pack = refl; sound_first = k; sound_second = k })
+    chatter.chatter_is_idle thirteen_party step_law s s es fs r (record { pack = refl; sound_first = k; sound_second = k })

@@ -31,11 +31,11 @@ use Rattle.thirteen_words.specs.Word.{word_of}
 
 pub served_reply : Replied
 unfolding transact_answer transact_reply
-served_reply s c command r v = visits.served-reply (visit s c) command r v
+served_reply s c command r v = visits.served_reply (visit s c) command r v
 
 pub exchange_passes : ExchangePasses
 unfolding transact_answer transact_reply
-exchange_passes s c command r v = visits.exchange-passes (visit s c) command r v
+exchange_passes s c command r v = visits.exchange_passes (visit s c) command r v
 
 -- all cells are 26 bytes
 block_fits : (s : ThirteenState) (command : ℕ) → CellsFit s.pack.cells → BlockFits (thirteen_side s) command
@@ -44,7 +44,7 @@ block_fits s command f k =
 
 pub exchange_accepted : ExchangeAccepted
 unfolding transact_answer transact_reply
-exchange_accepted s c command r v f = visits.exchange-accepted (visit s c) command r v (block_fits s command f)
+exchange_accepted s c command r v f = visits.exchange_accepted (visit s c) command r v (block_fits s command f)
 
 -- no row but that of F1 is a block
 not_block : (command : ℕ) → eqb command 0xF1 ≡ false → is_block (thirteen_kind command) ≡ false
@@ -81,7 +81,7 @@ long s command f =
 pub exchange_length : ExchangeLength
 unfolding transact_answer transact_reply
 exchange_length s c command r v f =
-    ap (λ (x : List ℕ). length x) (visits.whole (visit s c) command r v) ∙ long s command f (visits.row-served (visit s c) command r v)
+    ap (λ (x : List ℕ). length x) (visits.whole (visit s c) command r v) ∙ long s command f (visits.row_served (visit s c) command r v)
 
 exchanged : (s : ThirteenState) (c : Call) → Exchanged s c → VisitExchanged (visit s c)
 unfolding transact_answer
@@ -92,13 +92,13 @@ exchanged s c x =
       is-served = x.is-served;
       address = omega arith;
       a_byte = x.a_byte;
-      word = word_below s x.command (visits.served-heard (visit s c) x.is-served).0 x.fits;
+      word = word_below s x.command (visits.served_heard (visit s c) x.is-served).0 x.fits;
       block = cells-bytes s.pack.cells x.fits.cells.words;
     }
 
 pub exchanges_apart : ExchangesApart
 unfolding transact_answer transact_reply
-exchanges_apart s t c d x y = visits.exchanges-apart (visit s c) (visit t d) (exchanged s c x) (exchanged t d y)
+exchanges_apart s t c d x y = visits.exchanges_apart (visit s c) (visit t d) (exchanged s c x) (exchanged t d y)
 
 pub misheard : Misheard
 unfolding transact_answer transact_reply exchanged

@@ -31,8 +31,8 @@ use Rattle.thirteen_words.specs.Word.{given_of, word_answer}
 pub cut_off_exactly : CutOffExactly
 unfolding given_of
 cut_off_exactly p command =
-    at P command 0x11 (simp (minutes.cut-off-exactly, or-false))
-    (λ a. at P command 0x13 (simp minutes.cut-off-exactly)
+    at P command 0x11 (simp (minutes.cut_off_exactly, or-false))
+    (λ a. at P command 0x13 (simp minutes.cut_off_exactly)
     (λ b. simp (a, b, choice.chosen given_answer, choice.alike)))
   where
     P : ℕ → Type 0
@@ -46,22 +46,22 @@ rows_by_cut p = simp (cut_off_exactly p)
 in_rows : (s : ThirteenState) (c : Call) (command : ℕ) → command < 256 → sound_of s ≡ true → 34 ≤ c.room → Reads c command
     → answer s c ≡ get_or (read_rows (λ n. word_answer s.pack n)) command 0
 unfolding transact_answer thirteen_kind given_of
-in_rows s c command l sound room r = visits.read-in-rows (visit s c) command _ refl l (sound, room) r
+in_rows s c command l sound room r = visits.read_in_rows (visit s c) command _ refl l (sound, room) r
 
 pub read_row : ReadRow
 read_row s c command l sound room r = in_rows s c command l sound room r ∙ ap (λ rows. get_or rows command 0) (rows_by_cut s.pack)
 
 pub write_row : WriteRow
 unfolding transact_answer thirteen_kind
-write_row s c command word l sound room w = visits.write-in-rows (visit s c) command word true _ refl l (sound, room) w
+write_row s c command word l sound room w = visits.write_in_rows (visit s c) command word true _ refl l (sound, room) w
 
 pub bare_write : BareWrite
 unfolding transact_answer
-bare_write s c command word sound room w = visits.write-by-row (visit s c) command word false (sound, room) w
+bare_write s c command word sound room w = visits.write_by_row (visit s c) command word false (sound, room) w
 
 pub other_addresses : OtherAddresses
 unfolding transact_answer
-other_addresses s c address rest sound room b n = visits.other-address (visit s c) address rest (sound, room) b n
+other_addresses s c address rest sound room b n = visits.other_address (visit s c) address rest (sound, room) b n
 
 -- ---- which answers come
 

@@ -1,4 +1,6 @@
 // The thirteen-cell pack: what it remembers, when that is sound, set-up and samples.
+#![tactic(auto)]
+
 ghost use Rattle.std.specs.Prelude.{◌≡◌, true, ◌<◌, ◌≤◌};
 ghost use Rattle.capacity.specs.Capacity.{milliamp_ms};
 ghost use Rattle.thirteen_pack.specs.Facts.{SoundFacts};

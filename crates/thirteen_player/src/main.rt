@@ -1,8 +1,10 @@
 // Plays a bus capture, read from standard input, to a thirteen-cell pack: a line for each row, `14` for a bad capture.
+#![tactic(auto)]
+
 use capture::Step;
-use libc::{STDIN_FILENO, STDOUT_FILENO};
 use pack::Sample;
 use start::Setup;
+use std::io;
 use thirteen_pack::ThirteenState;
 
 // The player's pack: half full, no cell like another, drawn from with 1,234 mA at 25 °C.
@@ -36,35 +38,35 @@ fn beginning() -> ThirteenState {
 }
 
 // One row: the pack's answer is printed, and the state it leaves comes back.
-fn turn(s: ThirteenState, read: bool, bytes: &[u8]) -> ThirteenState {
+fn turn(rt: &impl Print, s: ThirteenState, read: bool, bytes: &[u8]) -> io::Result<ThirteenState> {
     let mut room = [0u8; 34];
     let out = thirteen::transact(s, read, bytes, &mut room);
-    lines::print_line(out.answer, &room, out.length);
-    out.state
+    lines::print_line(rt, out.answer, &room, out.length)?;
+    Ok(out.state)
 }
 
-fn play(bytes: &[u8]) {
+fn play(rt: &impl Print, bytes: &[u8]) -> io::Result<()> {
     let opened = capture::open(bytes);
     if opened.answer != 0 {
-        io::write_all(STDOUT_FILENO, b"14\n");
-        return;
+        return println!(rt; "14");
     }
     let mut s = beginning();
     let mut place = opened.place;
     let mut row: usize = 0;
     while row < opened.rows {
         let Step::Next(mark, _, next) = capture::step_at(bytes, row, place) else {
-            return;
+            return Ok(());
         };
-        s = turn(s, mark == 1, capture::body_at(bytes, row, place));
+        s = turn(rt, s, mark == 1, capture::body_at(bytes, row, place))?;
         place = next;
         row += 1;
     }
+    Ok(())
 }
 
 // No capture is longer than 1 + 255 × 39 bytes: one byte more is enough to tell.
-fn main() {
+fn main(rt: HostRuntime) -> io::Result<()> {
     let mut bytes = [0u8; 9947];
-    let n = io::read_full(STDIN_FILENO, &mut bytes);
-    play(&bytes[..n]);
+    let n = lines::read_full(&rt, &mut bytes)?;
+    play(&rt, &bytes[..n])
 }

@@ -1,4 +1,6 @@
 // 16 BatteryStatus of the thirteen-cell pack, bit by bit. Only our own crates call it.
+#![tactic(auto)]
+
 ghost use Rattle.std.specs.Prelude.{◌≡◌, ◌&&◌, leb, ltb};
 ghost use Rattle.thirteen_status.specs.Status.{hundredths, celsius, is_hot, status_of};
 

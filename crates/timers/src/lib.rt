@@ -1,4 +1,6 @@
 // What a sample does to the hold and the two timers. Only our own crates call it.
+#![tactic(auto)]
+
 ghost use Rattle.std.specs.Prelude.{◌≡◌, true, cond, ◌+◌, ◌-◌, ◌≤◌, min};
 ghost use Rattle.pack.specs.Sound.{timers_sound};
 ghost use Rattle.timers.specs.Countdown.{host_after, timers_after, restarted_of};

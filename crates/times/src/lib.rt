@@ -1,4 +1,6 @@
 // The times of 05, 06 and 11 to 13, and AtRateOK: pure functions of the pack. Only our own crates call these.
+#![tactic(auto)]
+
 ghost use Rattle.std.specs.Prelude.{◌≡◌, true, ◌≤◌};
 ghost use Rattle.times.specs.Times.{missing, at_rate_time_to_empty, at_rate_time_to_full, present_discharge, covers, at_rate_oK, rate_of, time_to_empty_at, run_time_to_empty, average_time_to_empty, average_time_to_full};
 ghost use Rattle.pack.specs.Sound.{tank_sound};

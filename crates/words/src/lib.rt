@@ -1,4 +1,6 @@
 // 16-bit words: their two bytes and their sign. Only our own crates call these.
+#![tactic(auto)]
+
 ghost use Rattle.std.specs.Prelude.{◌≡◌, ◌≤◌};
 ghost use Rattle.std.specs.Int.{w16};
 ghost use Rattle.std.proofs.Common.{of_z};

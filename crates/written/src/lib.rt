@@ -1,4 +1,6 @@
 // What a served write leaves of the pack. Only our own crates call this.
+#![tactic(auto)]
+
 ghost use Rattle.std.specs.Prelude.{◌≡◌, cond};
 ghost use Rattle.written.specs.Written.{host_written, timers_written, pack_written};
 

@@ -31,6 +31,9 @@ returns c =
     let n = length ((c.args.text.now)) in
     let count = c.pec_from.ensures ∙ ap (λ (p : ℕ). pec_from p (n ∷ [])) c.pec-start.ensures in
     let check = c.pec_from-check.ensures ∙ ap (λ (p : ℕ). pec_from p ((c.args.text.now))) count ∙ block_check request n ((c.args.text.now)) in
-    let long = reply_length request (block_body ((c.args.text.now))) in record { result = omega (arith, long); memory = then ((c.args.room.now)) 0 (n + 1) (block_body ((c.args.text.now))) (c.pec_from-check.result ∷ []) ((c.put_bytes.ensures)) (omega arith)
+    let long = reply_length request (block_body ((c.args.text.now))) in record {
+      result = omega (arith, long);
+      memory = then ((c.args.room.now)) 0 (n + 1) (block_body ((c.args.text.now))) (c.pec_from-check.result ∷ []) ((c.put_bytes.ensures)) (omega arith)
           ∙ ap (λ (p : ℕ). sets ((c.args.room.now)) 0 (block_body ((c.args.text.now)) ++ p ∷ [])) check
-          ∙ front (reply_of request (block_body ((c.args.text.now)))) ((c.args.room.now)) (omega (arith, long)) }
+          ∙ front (reply_of request (block_body ((c.args.text.now)))) ((c.args.room.now)) (omega (arith, long));
+    }

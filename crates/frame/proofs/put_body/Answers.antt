@@ -24,6 +24,9 @@ unfolding reply_of
 returns c =
     let request = c.args.request.now in
     let check = c.pec_from-check.ensures ∙ ap (λ (p : ℕ). pec_from p ((c.args.body.now))) c.pec.ensures ∙ body_check request ((c.args.body.now)) in
-    let long = reply_length request ((c.args.body.now)) in record { result = omega (arith, long); memory = then ((c.args.room.now)) 0 (length ((c.args.body.now))) ((c.args.body.now)) (c.pec_from-check.result ∷ []) ((c.put_bytes.ensures)) (omega arith)
+    let long = reply_length request ((c.args.body.now)) in record {
+      result = omega (arith, long);
+      memory = then ((c.args.room.now)) 0 (length ((c.args.body.now))) ((c.args.body.now)) (c.pec_from-check.result ∷ []) ((c.put_bytes.ensures)) (omega arith)
           ∙ ap (λ (p : ℕ). sets ((c.args.room.now)) 0 ((c.args.body.now) ++ p ∷ [])) check
-          ∙ front (reply_of request ((c.args.body.now))) ((c.args.room.now)) (omega (arith, long)) }
+          ∙ front (reply_of request ((c.args.body.now))) ((c.args.room.now)) (omega (arith, long));
+    }

@@ -17,5 +17,8 @@ unfolding reply_of
 returns c =
     let a = c.args in
     let low = c.low-low.ensures in
-    let high = c.high-high.ensures in record { result = refl; memory = simp (c.pec_from-check.ensures, c.pec-start.ensures, high, low, body_check)
-          (front (reply_of a.request.now (word_body a.w)) a.room.now (omega arith)) }
+    let high = c.high-high.ensures in record {
+      result = refl;
+      memory = simp (c.pec_from-check.ensures, c.pec-start.ensures, high, low, body_check)
+          (front (reply_of a.request.now (word_body a.w)) a.room.now (omega arith));
+    }

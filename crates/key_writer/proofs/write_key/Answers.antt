@@ -5,18 +5,18 @@ use Rattle.key_writer.proofs.write_key.Goals as goal
 
 pub returns-then-maker-gt32 : goal.returns-then-maker-gt32
 returns-then-maker-gt32 c =
-    let p = key_not _ _ _ _ _ (not_maker _ _ _ c.if-maker-gt32.true) in
-    record { value = p.0; room_after = p.1 }
+    let maker = key_not _ _ _ _ _ (not_maker _ _ _ c.if-maker-gt32.true) in
+    record { value = maker.0; room_after = maker.1 }
 
 pub returns-then-device-gt32 : goal.returns-then-device-gt32
 returns-then-device-gt32 c =
-    let p = key_not _ _ _ _ _ (not_device _ _ _ c.if-maker-gt32.false c.if-device-gt32.true) in
-    record { value = p.0; room_after = p.1 }
+    let device = key_not _ _ _ _ _ (not_device _ _ _ c.if-maker-gt32.false c.if-device-gt32.true) in
+    record { value = device.0; room_after = device.1 }
 
 pub returns-then-room-lt139 : goal.returns-then-room-lt139
 returns-then-room-lt139 c =
-    let p = key_not _ _ _ _ _ (not_room _ _ _ c.if-maker-gt32.false c.if-device-gt32.false c.if-room-lt139.true) in
-    record { value = p.0; room_after = p.1 }
+    let room = key_not _ _ _ _ _ (not_room _ _ _ c.if-maker-gt32.false c.if-device-gt32.false c.if-room-lt139.true) in
+    record { value = room.0; room_after = room.1 }
 
 pub bounds-room-a : goal.bounds-room-a
 bounds-room-a c = omega (arith, c.put_name-a.auto.room)

@@ -10,13 +10,12 @@ unfolding totals_sound
 loop-i-init c = (omega arith, refl)
 
 pub loop-i-preserved : goal.loop-i-preserved
-loop-i-preserved c =
-    (
-      omega arith,
-      ap (λ x. x && c.total_sound-one.result) c.loop-i.invariant.1
-          ∙ ap (λ x. totals_sound (take c.loop-i.i c.args.totals) && x) c.total_sound-one.ensures
-          ∙ totals_next c.args.totals c.loop-i.i (search rules),
-    )
+loop-i-preserved c = (
+  omega arith,
+  ap (λ x. x && c.total_sound-one.result) c.loop-i.invariant.1
+      ∙ ap (λ x. totals_sound (take c.loop-i.i c.args.totals) && x) c.total_sound-one.ensures
+      ∙ totals_next c.args.totals c.loop-i.i (search rules),
+)
 
 pub returns : goal.returns
 returns c =

@@ -1,0 +1,15 @@
+-- `bus::serve_word` meets its contract.
+-- Assumes nothing.
+use mathlib.Core.Path.{ap, ◌∙◌}
+use borrow.Author.Rules.{rules}
+use Rattle.frame.specs.Transactions.{reply_of, word_body}
+use Rattle.gauge.specs.declared.Shown.{Shown}
+use Rattle.rooms.specs.Rooms.{placed}
+use Rattle.bus.proofs.serve_word.Goals as goal
+
+pub returns : goal.returns
+returns c =
+    let put = c.put_word-length.ensures in
+    let show = c.show-shown.ensures in
+    let a = c.args in
+    record { result = simp (c.unchanged.ensures, put.result, show); memory = put.memory ∙ ap (λ (w : Shown). placed (reply_of a.bytes.now (word_body w.word)) a.room.now) show }

@@ -1,0 +1,25 @@
+-- `pec_demo::value` meets its contract.
+-- Assumes nothing.
+use borrow.Author.Tests.{lt-ltb, le-ltb}
+use Rattle.pec_demo.proofs.value.Goals as goal
+
+pub returns-then-c-lt48 : goal.returns-then-c-lt48
+returns-then-c-lt48 c = simp (lt-ltb _ _ c.if-c-lt48.true)
+
+pub returns-then-c-lt58 : goal.returns-then-c-lt58
+returns-then-c-lt58 c = simp (le-ltb _ _ c.if-c-lt48.false, lt-ltb _ _ c.if-c-lt58.true)
+
+pub returns-then-c-lt65 : goal.returns-then-c-lt65
+returns-then-c-lt65 c = simp (le-ltb _ _ c.if-c-lt48.false, le-ltb _ _ c.if-c-lt58.false, lt-ltb _ _ c.if-c-lt65.true)
+
+pub returns-then-c-lt71 : goal.returns-then-c-lt71
+returns-then-c-lt71 c = simp (le-ltb _ _ c.if-c-lt48.false, le-ltb _ _ c.if-c-lt58.false, le-ltb _ _ c.if-c-lt65.false, lt-ltb _ _ c.if-c-lt71.true)
+
+pub returns-then-c-lt97 : goal.returns-then-c-lt97
+returns-then-c-lt97 c = simp (le-ltb _ _ c.if-c-lt48.false, le-ltb _ _ c.if-c-lt58.false, le-ltb _ _ c.if-c-lt65.false, le-ltb _ _ c.if-c-lt71.false, lt-ltb _ _ c.if-c-lt97.true)
+
+pub returns-then-c-lt103 : goal.returns-then-c-lt103
+returns-then-c-lt103 c = simp (le-ltb _ _ c.if-c-lt48.false, le-ltb _ _ c.if-c-lt58.false, le-ltb _ _ c.if-c-lt65.false, le-ltb _ _ c.if-c-lt71.false, le-ltb _ _ c.if-c-lt97.false, lt-ltb _ _ c.if-c-lt103.true)
+
+pub returns : goal.returns
+returns c = simp (le-ltb _ _ c.if-c-lt48.false, le-ltb _ _ c.if-c-lt58.false, le-ltb _ _ c.if-c-lt65.false, le-ltb _ _ c.if-c-lt71.false, le-ltb _ _ c.if-c-lt97.false, le-ltb _ _ c.if-c-lt103.false)
