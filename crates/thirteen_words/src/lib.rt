@@ -1,5 +1,6 @@
 // The words of the thirteen-cell pack, each with its answer, and the bytes of all cells. Only our own crates call these.
 #![tactic(auto)]
+
 ghost use Rattle.std.specs.Prelude.{◌≡◌, ◌/◌, ◌≤◌};
 ghost use Rattle.commands.specs.Commands.{from};
 ghost use Rattle.thirteen_pack.specs.Facts.{SoundFacts};
