@@ -1,5 +1,6 @@
 // The thirteen-cell pack's transactions: the answer to every byte string that the driver gives.
 #![tactic(auto)]
+
 ghost use Rattle.std.specs.Prelude.{◌≡◌, true, cond, not, ◌≤◌, length};
 ghost use Rattle.commands.specs.Answers.{write_answer, row_reply};
 ghost use Rattle.commands.specs.declared.Kind.TheVariants.{Block};
