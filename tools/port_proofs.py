@@ -334,6 +334,11 @@ def turn(path, crate, function, of, clauses):
             if not re.search(r"\.(Statement\.\{statement\}|Tie as tie)$", block):
                 uses.append(block)
             continue
+        if kind == "other" and [it for it in lines if not it.startswith("--")][0].startswith("module _"):
+            if "tie." in block:
+                said.append(f"{path}: {lines[0]}: speaks of tie")
+            locals_.append(block)
+            continue
         if kind == "other":
             said.append(f"{path}: a line that is no item: {lines[0]}")
             continue

@@ -13,6 +13,18 @@ use Rattle.frame.specs.Broadcasts.{message_size}
 use Rattle.rooms.specs.Rooms.{further}
 use Rattle.charger.proofs.message.Goals as goal
 
+module _ (plain : Bool) (bytes : List ℕ) (at : ℕ) (first : ℕ × ℕ) {size : ℕ} (is : size ≡ message_size plain) where
+  none : length bytes < at + size → ([] ≡ message_at plain bytes at) × (further 0 first ≡ message_place plain bytes at first)
+  none h =
+      let e : is_message plain bytes at ≡ false = lt-leb (at + message_size plain) (length bytes) (omega (arith, is, h)) in
+      (simp e, simp e)
+
+  whole : at + size ≤ length bytes → (take (at + size - at) (drop at bytes) ≡ message_at plain bytes at) × (further at first ≡ message_place plain bytes at first)
+  whole h =
+      let e : is_message plain bytes at ≡ true = le-leb (at + message_size plain) (length bytes) (omega (arith, is, h)) in
+      let n : at + size - at ≡ message_size plain = omega (arith, is) in
+      (ap (λ (k : ℕ). take k (drop at bytes)) n ∙ simp e, simp e)
+
 pub returns-then-n-size : goal.returns-then-n-size
 returns-then-n-size c =
     let a = c.args in

@@ -1,11 +1,7 @@
 -- `thirteen_status::over_temperature` meets its contract: 3,232 and 3,332 in 0.1 K are the first at least 50 °C and 60 °C.
 -- Assumes nothing.
 use Rattle.thirteen_status.proofs.Celsius.{at_least_tenths}
-use Rattle.thirteen_status.proofs.over_temperature.Statement.{statement}
-use Rattle.thirteen_status.proofs.over_temperature.Tie as tie
+use Rattle.thirteen_status.proofs.over_temperature.Goals as goal
 
-returns : tie.Need-returns
+pub returns : goal.returns
 returns c = simp (at_least_tenths 50 c.args.temperature, at_least_tenths 60 c.args.temperature)
-
-pub over-temperature-spec : {M : Type 1} → statement M
-over-temperature-spec = tie.close (tie.spec returns)
