@@ -2,11 +2,11 @@
 -- Assumes nothing.
 use mathlib.Core.Path.{refl, sym, ap, ◌∙◌}
 use mathlib.Core.Bool.{true, false}
-use mathlib.Core.List.{List, ◌++◌}
-use Prim.Native.Nat.{zero, ◌+◌, ◌≤◌}
+use mathlib.Core.List.{◌++◌}
+use Prim.Native.Nat.{◌≤◌}
 use native.Mathlib.Omega.{arith}
 use borrow.Author.Tests.{eq-eqb, le-leb}
-use Rattle.rooms.specs.Rooms.{Bytes, between}
+use Rattle.rooms.specs.Rooms.{between}
 use Rattle.area.specs.Area.{settings_at, host_at, latest_at, tank_at, timers_at, recent_at, area_length, area_of, state_in}
 use Rattle.area_parts.specs.Parts.{settings_bytes, host_bytes, latest_bytes, tank_bytes, timers_bytes, recent_bytes, recent_in}
 use Rattle.numbers.proofs.Numbers.{bytes_between, number_fits, numbers_fit}
