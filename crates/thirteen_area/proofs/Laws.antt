@@ -1,12 +1,11 @@
 -- The theorems on the thirteen-cell pack's areas. (That each gives the other back is Whole.)
 -- Assumes nothing.
 use mathlib.Core.Path.{◌≡◌, refl, sym, ap, ◌∙◌}
-use mathlib.Core.List.{List}
 use Prim.Native.Nat.{◌%◌}
 use native.Mathlib.Omega.{arith}
 use Rattle.area_parts.specs.Parts.{recent_in}
 use Rattle.numbers.proofs.Numbers.{bytes_between, number_fits, numbers_fit}
-use Rattle.rooms.specs.Rooms.{Bytes, between}
+use Rattle.rooms.specs.Rooms.{between}
 use Rattle.thirteen_area.proofs.Whole.{held, read_back}
 use Rattle.thirteen_area.specs.Area.{cells_in, fixed_at, latest_at, cells_at, level_at, recent_at, thirteen_length, thirteen_area_of, state_in}
 use Rattle.thirteen_area.specs.Laws.{AreasTell, HeldFits, StatesTell, ErrorFirst}

@@ -1,0 +1,6 @@
+-- `thirteen_area::fixed_in` meets its contract.
+-- Assumes nothing.
+use Rattle.thirteen_area.proofs.fixed_in.Goals as goal
+
+pub returns : goal.returns
+returns c = rw (c.word_at.ensures, c.word_at-2.ensures, c.word_at-3.ensures)
