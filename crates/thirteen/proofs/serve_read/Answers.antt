@@ -16,8 +16,7 @@ use Rattle.thirteen.specs.Commands.{thirteen_kind}
 use Rattle.thirteen.specs.Transact.{thirteen_side, outcome, row_given}
 use Rattle.thirteen_pack.specs.declared.ThirteenState.{ThirteenState}
 use Rattle.thirteen_words.specs.Word.{given_of, word_of, word_answer}
-use Rattle.thirteen.proofs.serve_read.Statement.{statement}
-use Rattle.thirteen.proofs.serve_read.Tie as tie
+use Rattle.thirteen.proofs.serve_read.Goals as goal
 
 -- what a row is given, with the room
 by_row : (s : ThirteenState) (bytes room : List ℕ) (command : ℕ) {kind : Kind} → thirteen_kind command ≡ kind
@@ -42,51 +41,48 @@ word-given s bytes room command = (
   ap (λ (x : List ℕ). placed x room) (word_reply s bytes command),
 )
 
-returns : tie.Need-returns
-returns c =
-    let a = c.before.before.before.before.before.before.args in
-    let k = sym c.before.before.before.row.ensures ∙ c.before.enum_told.given.1 in
+pub returns-in-Reserved : goal.returns-in-Reserved
+returns-in-Reserved c =
+    let a = c.args in
+    let k = sym c.row.ensures ∙ c.in-Reserved.is in
     let e = by_row a.s a.bytes.now a.room.now a.command k in
-    (c.answered.ensures ∙ e.0, e.1)
+    record { result = c.answered.ensures ∙ e.0; memory = e.1 }
 
-returns-2 : tie.Need-returns-2
-returns-2 c =
-    let a = c.before.before.before.before.before.before.args in
-    let k = sym c.before.before.before.row.ensures ∙ c.before.enum-told2.given.1 in
+pub returns-in-Optional : goal.returns-in-Optional
+returns-in-Optional c =
+    let a = c.args in
+    let k = sym c.row.ensures ∙ c.in-Optional.is in
     let e = by_row a.s a.bytes.now a.room.now a.command k in
-    (c.answered2.ensures ∙ e.0, e.1)
+    record { result = c.answered-in-Optional.ensures ∙ e.0; memory = e.1 }
 
-returns-3 : tie.Need-returns-3
-returns-3 c =
-    let a = c.before.before.before.before.before.before.args in
-    let k = sym c.before.before.before.row.ensures ∙ c.before.enum-told3.given.1 in
+pub returns-in-WriteOnly : goal.returns-in-WriteOnly
+returns-in-WriteOnly c =
+    let a = c.args in
+    let k = sym c.row.ensures ∙ c.in-WriteOnly.is in
     let e = by_row a.s a.bytes.now a.room.now a.command k in
-    (c.answered3.ensures ∙ e.0, e.1)
+    record { result = c.answered-in-WriteOnly.ensures ∙ e.0; memory = e.1 }
 
-returns-4 : tie.Need-returns-4
-returns-4 c =
-    let a = c.before.before.before.before.before.before.before.before.before.args in
-    let k = sym c.before.before.before.before.before.before.row.ensures ∙ c.before.before.before.before.enum-told4.given.1 in
+pub returns-in-Block : goal.returns-in-Block
+returns-in-Block c =
+    let a = c.args in
+    let k = sym c.row.ensures ∙ c.in-Block.is in
     let e = by_row a.s a.bytes.now a.room.now a.command k in
-    (c.before.before.serve-cells.ensures.0 ∙ e.0, c.before.before.serve-cells.ensures.1 ∙ e.1)
+    record { result = c.serve_cells.ensures.result ∙ e.0; memory = c.serve_cells.ensures.memory ∙ e.1 }
 
-returns-5 : tie.Need-returns-5
-returns-5 c =
-    let a = c.before.before.before.before.before.before.before.before.before.args in
-    let k = sym c.before.before.before.before.before.before.row.ensures ∙ c.before.before.before.before.enum-told5.given.1 in
-    let e = by_row a.s a.bytes.now a.room.now a.command k in
-    let w = word-given a.s a.bytes.now a.room.now a.command in
-    let r = c.before.before.serve-word.ensures in
-    (r.0 ∙ w.0 ∙ e.0, r.1 ∙ w.1 ∙ e.1)
-
-returns-6 : tie.Need-returns-6
-returns-6 c =
-    let a = c.before.before.before.before.before.before.before.before.before.args in
-    let k = sym c.before.before.before.before.before.before.row.ensures ∙ c.before.before.before.before.enum-told6.given.1 in
+pub returns-in-ReadOnly : goal.returns-in-ReadOnly
+returns-in-ReadOnly c =
+    let a = c.args in
+    let k = sym c.row.ensures ∙ c.in-ReadOnly.is in
     let e = by_row a.s a.bytes.now a.room.now a.command k in
     let w = word-given a.s a.bytes.now a.room.now a.command in
-    let r = c.before.before.serve-word2.ensures in
-    (r.0 ∙ w.0 ∙ e.0, r.1 ∙ w.1 ∙ e.1)
+    let r = c.serve_word.ensures in
+    record { result = r.result ∙ w.0 ∙ e.0; memory = r.memory ∙ w.1 ∙ e.1 }
 
-pub serve-read-spec : {M : Type 1} → statement M
-serve-read-spec = tie.close (tie.spec (λ c κs. search rules) (λ c. search rules) (λ c κs. search rules) (λ c. search rules) (λ c κs. search rules) (λ c. search rules) (λ c κs. search rules) (λ c. search rules) (λ c κs. search rules) (λ c. search rules) (λ c κs. search rules) (λ c. search rules) (λ c κs. search rules) returns returns-2 returns-3 (λ c. search rules) returns-4 (λ c. search rules) returns-5 (λ c. search rules) returns-6)
+pub returns-in-ReadWrite : goal.returns-in-ReadWrite
+returns-in-ReadWrite c =
+    let a = c.args in
+    let k = sym c.row.ensures ∙ c.in-ReadWrite.is in
+    let e = by_row a.s a.bytes.now a.room.now a.command k in
+    let w = word-given a.s a.bytes.now a.room.now a.command in
+    let r = c.serve_word-in-ReadWrite.ensures in
+    record { result = r.result ∙ w.0 ∙ e.0; memory = r.memory ∙ w.1 ∙ e.1 }
