@@ -3,10 +3,10 @@
 use mathlib.Core.Bool.{true, not, ◌&&◌, and-eq-true_iff, true≢false}
 use mathlib.Core.List.{List}
 use mathlib.Core.Path.{◌≡◌, refl, sym, ap, ◌∙◌}
-use Prim.Native.Nat.{ℕ, zero, suc, ◌<◌}
+use Prim.Native.Nat.{ℕ, zero, suc}
 use native.Mathlib.Omega.{arith}
 use borrow.Author.Tests.{lt-leb}
-use lib.Dec.{eqb, ltb, leb}
+use lib.Dec.{ltb, leb}
 use lib.ListN.{length, set}
 use Rattle.commands.proofs.Answers.{code_most}
 use Rattle.commands.specs.Answers.{code_after}

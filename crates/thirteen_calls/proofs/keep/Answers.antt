@@ -1,6 +1,5 @@
 -- `thirteen_calls::keep` meets its contract.
 -- Assumes nothing.
-use borrow.Author.Rules.{rules}
 use borrow.Author.Tests.{eq-eqb, ne_eqb}
 use mathlib.Core.Path.{◌∙◌}
 use Rattle.thirteen_calls.proofs.Areas.{stored}

@@ -1,6 +1,5 @@
 -- `thirteen_calls::keep_error` meets its contract.
 -- Assumes nothing.
-use borrow.Author.Rules.{rules}
 use Rattle.thirteen_calls.proofs.keep_error.Goals as goal
 
 pub returns-then-answer : goal.returns-then-answer

@@ -1,6 +1,5 @@
 -- `thirteen_calls::sample` meets its contract.
 -- Assumes nothing.
-use borrow.Author.Rules.{rules}
 use mathlib.Core.Path.{refl, sym, ap, ◌∙◌}
 use native.Mathlib.Omega.{arith}
 use Rattle.thirteen_area.proofs.Whole.{area_size}
@@ -9,7 +8,7 @@ use Rattle.thirteen_pack.specs.declared.ThirteenSampled.{ThirteenSampled}
 use Rattle.thirteen_calls.proofs.sample.Goals as goal
 
 pub returns-then-held-ne0 : goal.returns-then-held-ne0
-returns-then-held-ne0 c = 
+returns-then-held-ne0 c =
     let a = c.args in
     let it = sample-none a.area.now a.x a.cells c.load-held.ensures.is c.if-held-ne0.true in
     record { value = it.0; area_after = it.1 }
@@ -27,7 +26,6 @@ keep-requires c =
 
 pub returns : goal.returns
 returns c =
-
     let a = c.args in
     let it = sample-done a.area.now a.x a.cells c.load-held.ensures.is c.if-held-ne0.false c.sample-out.ensures refl c.keep.ensures in
     record { value = it.0; area_after = it.1 }

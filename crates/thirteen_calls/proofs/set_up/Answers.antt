@@ -1,6 +1,5 @@
 -- `thirteen_calls::set_up` meets its contract.
 -- Assumes nothing.
-use borrow.Author.Rules.{rules}
 use borrow.Author.Tests.{ne_eqb}
 use mathlib.Core.Path.{refl, ap}
 use native.Mathlib.Omega.{arith}
@@ -19,4 +18,4 @@ keep-requires c =
 
 pub returns : goal.returns
 returns c =
- record { value = (start_done c.args.area.now c.if-area-ne-LENGTH.false c.set_up-started.ensures refl c.keep.ensures).0; area_after = (start_done c.args.area.now c.if-area-ne-LENGTH.false c.set_up-started.ensures refl c.keep.ensures).1 }
+    record { value = (start_done c.args.area.now c.if-area-ne-LENGTH.false c.set_up-started.ensures refl c.keep.ensures).0; area_after = (start_done c.args.area.now c.if-area-ne-LENGTH.false c.set_up-started.ensures refl c.keep.ensures).1 }

@@ -1,6 +1,5 @@
 -- `thirteen_calls::sound` meets its contract.
 -- Assumes nothing.
-use borrow.Author.Rules.{rules}
 use Rattle.thirteen_calls.proofs.Areas.{no_area, an_area}
 use Rattle.thirteen_calls.proofs.sound.Goals as goal
 
