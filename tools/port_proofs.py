@@ -202,6 +202,8 @@ def rewrite(body, chain, said, what, fn, at_places=None):
     pattern = re.compile(r"(?<![^\s(){};,\[\]])(" + "|".join(re.escape(it) for it in depth) + r")((?:\.before)*)(?:\.(" + NAME + r"))?(?![^\s(){}.;,\[\]])")
     for m in pattern.finditer(text):
         n = depth[m[1]] + m[2].count(".before")
+        if m[3] is None and re.search(r"[{;]\s*$", text[: m.start()]) and re.match(r"\s+=\s", text[m.end():]):
+            continue  # a field's name in a record
         if m[3] is None:
             lead = re.search(r"(?<![^\s(){};,\[\]])(" + NAME + r") $", text[: m.start()])
             if (n or m[1] != "c") and not (lead and at_places and lead[1] in at_places):

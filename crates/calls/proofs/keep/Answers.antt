@@ -1,6 +1,5 @@
 -- `calls::keep` meets its contract.
 -- Assumes nothing.
-use borrow.Author.Rules.{rules}
 use mathlib.Core.Path.{◌∙◌}
 use borrow.Author.Tests.{eq-eqb, ne_eqb}
 use Rattle.calls.proofs.Areas.{stored}

@@ -1,6 +1,5 @@
 -- `calls::keep_error` meets its contract.
 -- Assumes nothing.
-use borrow.Author.Rules.{rules}
 use native.Mathlib.Omega.{arith}
 use Rattle.calls.proofs.Stores.{error_put}
 use Rattle.calls.proofs.keep_error.Goals as goal

@@ -1,6 +1,5 @@
 -- `calls::keep_transacted` meets its contract.
 -- Assumes nothing.
-use borrow.Author.Rules.{rules}
 use mathlib.Core.Path.{sym, ◌∙◌}
 use Rattle.calls.proofs.Stores.{stores_parts, stores_nothing, stores_error}
 use Rattle.calls.proofs.keep_transacted.Goals as goal

@@ -1,6 +1,5 @@
 -- `calls::keep_write` meets its contract.
 -- Assumes nothing.
-use borrow.Author.Rules.{rules}
 use Rattle.calls.proofs.Stores.{written_put}
 use Rattle.calls.proofs.keep_write.Goals as goal
 

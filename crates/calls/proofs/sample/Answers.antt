@@ -1,6 +1,5 @@
 -- `calls::sample` meets its contract.
 -- Assumes nothing.
-use borrow.Author.Rules.{rules}
 use mathlib.Core.Path.{refl, sym, ap, ◌∙◌}
 use native.Mathlib.Omega.{arith}
 use lib.ListN.{length}
@@ -12,7 +11,6 @@ use Rattle.calls.proofs.sample.Goals as goal
 
 pub returns-then-held-ne0 : goal.returns-then-held-ne0
 returns-then-held-ne0 c =
-
     let a = c.args in
     let it = sample-none a.area.now a.sample a.room.now c.load-held.ensures.is c.if-held-ne0.true in
     record { value = it.0; area_after = it.1.0; room_after = it.1.1 }
@@ -36,7 +34,6 @@ pack_up-requires c =
 
 pub returns : goal.returns
 returns c =
-
     let a = c.args in
     let out = c.sample-out.ensures in
     let it = sample-done a.area.now a.sample a.room.now c.load-held.ensures.is c.if-held-ne0.false refl out.result out.memory c.keep.ensures c.pack_up.ensures in

@@ -1,6 +1,5 @@
 -- `calls::sound` meets its contract.
 -- Assumes nothing.
-use borrow.Author.Rules.{rules}
 use Rattle.calls.proofs.Areas.{no_area, an_area}
 use Rattle.calls.proofs.sound.Goals as goal
 

@@ -1,6 +1,5 @@
 -- `calls::transact` meets its contract.
 -- Assumes nothing.
-use borrow.Author.Rules.{rules}
 use native.Mathlib.Omega.{arith}
 use mathlib.Core.Path.{ap, ◌∙◌}
 use lib.ListN.{length}
@@ -12,7 +11,6 @@ use Rattle.calls.proofs.transact.Goals as goal
 
 pub returns-then-held-ne0 : goal.returns-then-held-ne0
 returns-then-held-ne0 c =
-
     let a = c.args in
     let it = transact-none a.area.now a.service.now a.factory.now a.read a.bytes.now a.room.now c.load-held.ensures.is c.if-held-ne0.true in
     record { value = it.0; area_after = it.1.0; room_after = it.1.1 }
@@ -30,7 +28,6 @@ pack_up-requires c =
 
 pub returns : goal.returns
 returns c =
-
     let a = c.args in
     let held = c.load-held in
     let is = c.if-held-ne0.false in

@@ -1,6 +1,5 @@
 -- `packed::stepped` meets its contract.
 -- Assumes nothing.
-use borrow.Author.Rules.{rules}
 use mathlib.Core.Path.{ap, sym, subst, ◌∙◌}
 use Rattle.packed.specs.Packed.{RowFits, step_number}
 use Rattle.packed.proofs.stepped.Goals as goal
