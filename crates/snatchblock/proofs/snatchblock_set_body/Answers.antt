@@ -8,7 +8,7 @@ use Rattle.snatchblock.proofs.snatchblock_set_body.Goals as goal
 
 pub edited-requires : goal.edited-requires
 edited-requires c =
-    let bytes = all_bytes c.args.room.now (λ i. (c.type_inv.room i).fits) in
+    let bytes = all_bytes c.args.room.now (λ i. search rules) in
     omega (arith, edit_most _ _ _ _ bytes c.set.ensures.value)
 
 pub returns : goal.returns
