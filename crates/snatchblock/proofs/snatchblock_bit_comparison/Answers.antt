@@ -1,6 +1,5 @@
 -- `snatchblock::snatchblock_bit_comparison` meets its contract.
 -- Assumes nothing.
-use borrow.Author.Rules.{rules}
 use native.Mathlib.Omega.{arith}
 use mathlib.Core.Path.{ap}
 use Rattle.pec.specs.declared.Compared.{Compared}

@@ -1,6 +1,5 @@
 -- `snatchblock::snatchblock_block` meets its contract.
 -- Assumes nothing.
-use borrow.Author.Rules.{rules}
 use Rattle.snatchblock.proofs.Parts.{located-most}
 use Rattle.snatchblock.proofs.snatchblock_block.Goals as goal
 

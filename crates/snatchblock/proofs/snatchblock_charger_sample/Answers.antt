@@ -1,6 +1,5 @@
 -- `snatchblock::snatchblock_charger_sample` meets its contract.
 -- Assumes nothing.
-use borrow.Author.Rules.{rules}
 use mathlib.Core.Path.{ap, ◌∙◌}
 use Rattle.charger_calls.specs.Calls.{sample_number, sample_area}
 use Rattle.pack.specs.declared.Sample.{Sample}

@@ -1,6 +1,5 @@
 -- `snatchblock::snatchblock_charger_set_up` meets its contract.
 -- Assumes nothing.
-use borrow.Author.Rules.{rules}
 use mathlib.Core.Path.{ap, ◌∙◌}
 use Rattle.charger_calls.specs.Calls.{start_area}
 use Rattle.pack.specs.declared.Sample.{Sample}

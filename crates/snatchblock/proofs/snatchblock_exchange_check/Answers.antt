@@ -1,6 +1,5 @@
 -- `snatchblock::snatchblock_exchange_check` meets its contract.
 -- Assumes nothing.
-use borrow.Author.Rules.{rules}
 use Rattle.snatchblock.proofs.snatchblock_exchange_check.Goals as goal
 
 pub returns : goal.returns

@@ -1,6 +1,5 @@
 -- `snatchblock::snatchblock_open_capture` meets its contract.
 -- Assumes nothing.
-use borrow.Author.Rules.{rules}
 use native.Mathlib.Omega.{arith}
 use mathlib.Core.Path.{ap}
 use Rattle.capture.specs.declared.Opened.{Opened}

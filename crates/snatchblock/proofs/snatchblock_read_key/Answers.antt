@@ -1,6 +1,5 @@
 -- `snatchblock::snatchblock_read_key` meets its contract.
 -- Assumes nothing.
-use borrow.Author.Rules.{rules}
 use native.Mathlib.Omega.{arith}
 use mathlib.Core.Path.{◌∙◌}
 use Rattle.key.specs.Key.{read_key}

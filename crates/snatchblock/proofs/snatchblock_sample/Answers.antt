@@ -1,6 +1,5 @@
 -- `snatchblock::snatchblock_sample` meets its contract.
 -- Assumes nothing.
-use borrow.Author.Rules.{rules}
 use mathlib.Core.Path.{ap, ◌∙◌}
 use Rattle.calls.specs.Calls.{sample_number, sample_area, sample_room}
 use Rattle.pack.specs.declared.Sample.{Sample}

@@ -1,6 +1,5 @@
 -- `snatchblock::snatchblock_set_up` meets its contract.
 -- Assumes nothing.
-use borrow.Author.Rules.{rules}
 use mathlib.Core.Path.{ap, ◌∙◌}
 use Rattle.calls.specs.Calls.{start_number, start_area}
 use Rattle.start.specs.SetUp.{set_up_of}

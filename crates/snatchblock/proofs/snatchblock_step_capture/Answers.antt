@@ -1,6 +1,5 @@
 -- `snatchblock::snatchblock_step_capture` meets its contract.
 -- Assumes nothing.
-use borrow.Author.Rules.{rules}
 use Rattle.snatchblock.proofs.Parts.{step_most}
 use Rattle.snatchblock.proofs.snatchblock_step_capture.Goals as goal
 

@@ -1,6 +1,5 @@
 -- `snatchblock::snatchblock_thirteen_sample` meets its contract.
 -- Assumes nothing.
-use borrow.Author.Rules.{rules}
 use mathlib.Core.Path.{ap, ◌∙◌}
 use Rattle.pack.specs.declared.Sample.{Sample}
 use Rattle.snatchblock.proofs.Handed.{same_sample}

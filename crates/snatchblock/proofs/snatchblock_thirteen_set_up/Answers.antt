@@ -1,6 +1,5 @@
 -- `snatchblock::snatchblock_thirteen_set_up` meets its contract.
 -- Assumes nothing.
-use borrow.Author.Rules.{rules}
 use mathlib.Core.Path.{ap, ap₂, ◌∙◌}
 use Rattle.pack.specs.declared.Sample.{Sample}
 use Rattle.snatchblock.proofs.Handed.{same_sample}

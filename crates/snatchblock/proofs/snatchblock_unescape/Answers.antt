@@ -1,6 +1,5 @@
 -- `snatchblock::snatchblock_unescape` meets its contract.
 -- Assumes nothing.
-use borrow.Author.Rules.{rules}
 use native.Mathlib.Omega.{arith}
 use mathlib.Core.Path.{ap}
 use Rattle.rooms.specs.declared.Wrote.{Wrote}

@@ -1,6 +1,5 @@
 -- `snatchblock::snatchblock_write_sheet` meets its contract.
 -- Assumes nothing.
-use borrow.Author.Rules.{rules}
 use native.Mathlib.Omega.{arith}
 use mathlib.Core.Path.{ap}
 use Rattle.rooms.specs.declared.Wrote.{Wrote}
