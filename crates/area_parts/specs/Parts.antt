@@ -10,7 +10,7 @@ use Rattle.pack.specs.declared.Settings.{Settings}
 use Rattle.pack.specs.declared.Tank.{Tank}
 use Rattle.pack.specs.declared.Timers.{Timers}
 
--- ---- what set_up fixes: nine words, and the choice plain as a flag
+-- ---- what set-up fixes: nine words, and the choice plain as a flag
 
 abbrev pub settings_widths : List ℕ
 settings_widths = 2 ∷ 2 ∷ 2 ∷ 2 ∷ 2 ∷ 2 ∷ 2 ∷ 2 ∷ 2 ∷ 1 ∷ []

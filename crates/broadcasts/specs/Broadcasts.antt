@@ -27,7 +27,7 @@ charger_words_of p = cond (charger_goes p) (message_to 0x12 0x14 (charging_curre
 abbrev pub messages_of : Pack → List Message
 messages_of p = alarms_of p ++ charger_words_of p
 
--- their bytes, each with its PEC, or plain if set_up chose that (RULES 8.7)
+-- their bytes, each with its PEC, or plain if set-up chose that (RULES 8.7)
 abbrev pub broadcast_of : Pack → List ℕ
 broadcast_of p = all_sent p.settings.plain (messages_of p)
 

@@ -56,7 +56,7 @@ pub stored : (s : State) (room : List ℕ) → length room ≡ area_length → s
 unfolding area.stored_room
 stored s room n most = rw (eq-eqb _ _ n, le-leb s.pack.recent.count 255 (omega (arith, most)))
 
--- ---- set_up
+-- ---- set-up
 
 pub start_refused : (a : List ℕ) {t u : Started} {r : ℕ} → length a ≡ area_length → t ≡ u → (t.answer ≡ 0 → ⊥) → r ≡ packed t.answer 0
     → (r ≡ start_number a u) × (a ≡ start_area a u)

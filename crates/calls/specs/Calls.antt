@@ -12,13 +12,13 @@ use Rattle.start.specs.declared.Started.{Started}
 use Rattle.pack.specs.declared.State.{State}
 use Rattle.packed.specs.Packed.{packed}
 
--- ---- set_up
+-- ---- set-up
 
 -- no state goes into an area of another size; else set-up's own answer (RULES 1.1, 1.11)
 abbrev pub start_number : List ℕ → Started → ℕ
 start_number area started = cond (eqb (length area) area_length) started.answer no_state
 
--- a served set_up leaves its state; a refused one the area as it was (RULES 1.11)
+-- a served set-up leaves its state; a refused one the area as it was (RULES 1.11)
 abbrev pub start_area : List ℕ → Started → List ℕ
 start_area area started = cond (eqb (length area) area_length && eqb started.answer 0) (area_of started.state) area
 

@@ -73,7 +73,7 @@ AreasFollow =
     (s : State) (ls : List Lent) → sound_of s ≡ true → Fits s → Throughout EventFits s (map event_of ls)
     → area_run (area_of s) ls ≡ area_of (run s (map event_of ls))
 
--- request R-11 in areas, where what set_up and the calls bring holds what its types let it hold: since a served set_up, with any idle calls struck out,
+-- request R-11 in areas, where what set-up and the calls bring holds what its types let it hold: since a served set-up, with any idle calls struck out,
 -- every byte at the end is the same but the first, the error code (RULES 16.2)
 abbrev pub ChatterInAreas : Type 0
 ChatterInAreas =

@@ -1,4 +1,4 @@
--- Document 01, Registers: the rules of capacity that registers, set_up and samples share.
+-- Document 01, Registers: the rules of capacity that registers, set-up and samples share.
 -- Assumes nothing.
 use Rattle.std.specs.Prelude.{ℕ, ◌*◌, ◌/◌, min, Bool, true, false, cond, eqb, leb}
 

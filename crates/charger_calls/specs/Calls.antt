@@ -10,7 +10,7 @@ use Rattle.charger_area.specs.Area.{charger_area_of, charger_in, is_charger_area
 use Rattle.pack.specs.declared.Sample.{Sample}
 use Rattle.packed.specs.Packed.{packed}
 
--- ---- set_up
+-- ---- set-up
 
 -- 0; 1 for an area of another size (RULES 14.12)
 abbrev pub start_number : List ℕ → ℕ

@@ -20,7 +20,7 @@ use Rattle.written.specs.Written.{bit_set}
 
 -- ---- 1. answers
 
--- set_up gives a sound state
+-- set-up gives a sound state
 abbrev pub SetUpSound : Type 0
 SetUpSound = (first : Sample) → sound_of (set_up_of first) ≡ true
 

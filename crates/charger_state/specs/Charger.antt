@@ -21,7 +21,7 @@ not_yet = record { taken = false; word = 0; awaited = false }
 abbrev pub power_on : ℕ → Latest → Charger
 power_on count latest = record { ChargingCurrent = not_yet; ChargingVoltage = not_yet; inhibited = false; count = count; latest = latest }
 
--- set_up takes a first sample and begins the count at 0 (RULES 14.3)
+-- set-up takes a first sample and begins the count at 0 (RULES 14.3)
 abbrev pub set_up_of : Sample → Charger
 set_up_of first = power_on 0 (latest_of first)
 

@@ -25,7 +25,7 @@ sendable p q x h r e =
     let elapsed = elapsed_of x.counter p.latest.counter in
     (ap (λ (m : Pack). tank_sound m.tank) e ∙ tank.after_sound p.settings p.tank (latest_of x) elapsed h, ap (λ (m : Pack). recent_sound m.recent) e ∙ recent.after_sound p.recent (latest_of x).current elapsed r)
 
--- what set_up chose stays
+-- what set-up chose stays
 pub same_choice : (p q : Pack) (x : Sample) → q ≡ moved_of p x → q.settings.plain ≡ p.settings.plain
 unfolding moved_of
 same_choice p q x e = ap (λ (m : Pack). m.settings.plain) e

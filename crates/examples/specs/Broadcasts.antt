@@ -1,4 +1,4 @@
--- Request R-5 worked by hand: a full pack that is charged half a minute after set_up sends all four messages, with PEC and in plain.
+-- Request R-5 worked by hand: a full pack that is charged half a minute after set-up sends all four messages, with PEC and in plain.
 -- Assumes nothing.
 use Rattle.std.specs.Prelude.{ℕ, Bool, true, false, List, [], ◌∷◌, ◌++◌, ◌≡◌, pos}
 use Rattle.broadcasts.specs.Broadcasts.{broadcast_of}
@@ -6,7 +6,7 @@ use Rattle.clock.specs.Sample.{moved_of}
 use Rattle.start.specs.SetUp.{pack_of}
 use Rattle.pack.specs.declared.Pack.{Pack}
 
--- full at set_up, asked for 16,800 mV, with the choice given
+-- full at set-up, asked for 16,800 mV, with the choice given
 abbrev full : Bool → Pack
 full plain =
     pack_of

@@ -1,4 +1,4 @@
--- Requests R-4 and R-8 worked by hand: a pack of 4,000 mAh, full at set_up and worn to 3,750. At −1,000 mA an hour draws 1,000 mAh.
+-- Requests R-4 and R-8 worked by hand: a pack of 4,000 mAh, full at set-up and worn to 3,750. At −1,000 mA an hour draws 1,000 mAh.
 -- Assumes nothing.
 use Rattle.std.specs.Prelude.{ℕ, false, List, [], ◌∷◌, ◌++◌, ◌≡◌, ℤ, pos, negsuc}
 use Rattle.clock.specs.Broadcast.{sampled_of}

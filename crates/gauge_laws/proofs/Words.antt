@@ -72,7 +72,7 @@ at_first u first =
       INITIALIZED = initialized (served u first).state (omega arith);
     }
 
--- a served set_up gives them
+-- a served set-up gives them
 pub initially : InitialWords
 unfolding set_up_of
 initially u first h = subst (λ (r : Started). Initially r.state) (sym (chosen u first (set_up_refused u) h)) (at_first u first)

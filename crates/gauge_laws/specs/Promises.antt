@@ -51,7 +51,7 @@ pub record Initially (s : State) : Type 0 where
   pub BatteryMode : word_of s 0x03 ≡ 0
   pub INITIALIZED : bit_of 7 (word_of s 0x16) ≡ 1
 
--- 3. a served set_up gives them
+-- 3. a served set-up gives them
 abbrev pub InitialWords : Type 0
 InitialWords = (u : Setup) (first : Sample) → (set_up_of u first).answer ≡ 0 → Initially (set_up_of u first).state
 

@@ -121,7 +121,7 @@ tick_at current counter = record { pack = sample_at current counter; room = 16; 
 abbrev quiet : Happening
 quiet = host (record { service = []; factory = []; read = false; bytes = 0x16 ∷ 0x03 ∷ 0x00 ∷ 0x20 ∷ []; room = 34 })
 
--- 30 s after set_up the words go and ask for 2,000 mA; then, before a millisecond has passed, current flows into the full pack
+-- 30 s after set-up the words go and ask for 2,000 mA; then, before a millisecond has passed, current flows into the full pack
 abbrev beginning : List Happening
 beginning = quiet ∷ tick (tick_at (pos 0) 30000) ∷ quiet ∷ tick (tick_at (pos 100) 30000) ∷ []
 

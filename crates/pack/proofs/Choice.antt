@@ -1,4 +1,4 @@
--- The choice of set_up has no part in soundness.
+-- The choice of set-up has no part in soundness.
 -- Assumes nothing.
 use mathlib.Core.Bool.{Bool}
 use mathlib.Core.Path.{◌≡◌, refl}

@@ -1,11 +1,11 @@
--- Request R-5: a state, and the same but for the choice of set_up, plain or with PEC.
+-- Request R-5: a state, and the same but for the choice of set-up, plain or with PEC.
 -- Assumes nothing.
 use Rattle.std.specs.Prelude.{Bool}
 use Rattle.pack.specs.declared.Pack.{Pack}
 use Rattle.pack.specs.declared.Settings.{Settings}
 use Rattle.pack.specs.declared.State.{State}
 
--- what set_up fixes, with the choice made so
+-- what set-up fixes, with the choice made so
 abbrev pub settings_as : Bool → Settings → Settings
 settings_as plain s =
     record {

@@ -15,7 +15,7 @@ use Rattle.recent.specs.Recent.{recent_sound}
 abbrev pub exactly : Bool → Bool → Bool
 exactly a b = cond a b (not b)
 
--- two of the three set_up conditions hold: design capacity and design voltage aren't 0 (RULES 3.1)
+-- two of the three set-up conditions hold: design capacity and design voltage aren't 0 (RULES 3.1)
 unfoldable pub settings_sound : Settings → Bool
 settings_sound s = not (eqb s.DesignCapacity 0) && not (eqb s.DesignVoltage 0)
 

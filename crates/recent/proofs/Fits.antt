@@ -1,4 +1,4 @@
--- What set_up makes of the recent minute fits its types.
+-- What set-up makes of the recent minute fits its types.
 -- Assumes nothing.
 use Rattle.std.proofs.Common.{ℕ, zero, suc, ◌^◌, ◌<◌, replicate, refl, arith}
 use Rattle.recent.specs.Fits.{Below, ZeroRecentFits}

@@ -16,7 +16,7 @@ pub record RecentFit (r : Recent) : Type 0 where
   pub begun : r.begun < 65536
   pub total : r.total < 2 ^ 32
 
--- ---- promised: what set_up makes fits
+-- ---- promised: what set-up makes fits
 
 abbrev pub ZeroRecentFits : Type 0
 ZeroRecentFits = RecentFit zero_recent

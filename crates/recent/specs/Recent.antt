@@ -1,5 +1,5 @@
--- Document 02, R-2: the recent minute. Kept are the totals of the last 60 complete seconds since set_up, in mA·ms as signed 32-bit numbers, and of the begun one.
--- (What a sample makes of it is `seconds`; that register 0B is so the rule's average of all milliseconds since set_up, `recent_laws` and `runs`.)
+-- Document 02, R-2: the recent minute. Kept are the totals of the last 60 complete seconds since set-up, in mA·ms as signed 32-bit numbers, and of the begun one.
+-- (What a sample makes of it is `seconds`; that register 0B is so the rule's average of all milliseconds since set-up, `recent_laws` and `runs`.)
 -- Assumes nothing.
 use Rattle.std.specs.Prelude.{◌≡◌, ℕ, zero, suc, ◌*◌, ◌<◌, ◌≤◌, Bool, true, cond, ◌&&◌, List, [], ◌∷◌, take, replicate, ℤ, pos, ◌+ℤ◌, neg_ℤ, ◌==◌, int_div, int_le, nat_le, nat_lt, slice_index}
 use Rattle.std.specs.Int.{w16, w32}

@@ -1,4 +1,4 @@
--- The state is what the milliseconds say: at set_up, and after each sample.
+-- The state is what the milliseconds say: at set-up, and after each sample.
 -- Assumes nothing.
 use Prim.Native.Nat.{ℕ, suc, ◌+◌, ◌-◌, ◌*◌, ◌/◌, ◌%◌, ◌<◌, ◌≤◌, min}
 use mathlib.Core.List.{List, ◌∷◌, ◌++◌, map, reverse}

@@ -1,4 +1,4 @@
--- What the state keeps of the current of each millisecond since set_up, the oldest first.
+-- What the state keeps of the current of each millisecond since set-up, the oldest first.
 -- Assumes nothing.
 use Rattle.std.specs.Prelude.{ℕ, ◌*◌, min, List, ◌++◌, map, reverse, ℤ, length, take, drop, replicate}
 use Rattle.std.specs.Int.{w32}

@@ -1,4 +1,4 @@
--- Document 02, R-2: AverageCurrent as the rule says it, of the current of each millisecond since set_up, the oldest first, without end. There is no state here.
+-- Document 02, R-2: AverageCurrent as the rule says it, of the current of each millisecond since set-up, the oldest first, without end. There is no state here.
 -- (What those milliseconds are, sample by sample, is `milliseconds` in `runs`.)
 -- Assumes nothing.
 use Rattle.std.specs.Prelude.{ℕ, zero, suc, ◌-◌, ◌/◌, List, [], ◌∷◌, ◌++◌, ℤ, pos, ◌+ℤ◌, length, take, drop}

@@ -1,4 +1,4 @@
--- Charge over histories: current × elapsed added, held between 0 and full, from set_up or a close on.
+-- Charge over histories: current × elapsed added, held between 0 and full, from set-up or a close on.
 -- Assumes nothing.
 use Prim.Native.Nat.{ℕ}
 use mathlib.Core.Bool.{true, false}

@@ -178,7 +178,7 @@ pec_taken_off_from s (e ∷ es) h =
     roomy (sample x n) r = r
     roomy (call c) r = r
 
--- a served set_up with either choice
+-- a served set-up with either choice
 set_up_as : (plain : Bool) (u : Setup) (first : Sample) → (set_up_of u first).answer ≡ 0 → from_set_up (setup_as plain u) first ≡ state_as plain (from_set_up u first)
 unfolding set_up_of pack_of
 set_up_as plain u first = either (set_up_refused u)

@@ -126,7 +126,7 @@ pub cycles_from : CyclesFrom
 cycles_from s es h f =
     subst⁻¹ (λ (d : ℕ). Cycled s.pack.settings.DesignCapacity s.pack.tank d (run s es).pack.tank) (words_true s es f) (over s es h)
 
--- ---- since set_up
+-- ---- since set-up
 
 since : (u : Setup) (first : Sample) (es : List Event) → (set_up_of u first).answer ≡ 0 → Signed16 (accepted_of (from_set_up u first) es)
     → Cycled u.DesignCapacity (tank_of u) (drawn_over (from_set_up u first) es) (run (from_set_up u first) es).pack.tank

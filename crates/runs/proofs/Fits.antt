@@ -1,4 +1,4 @@
--- From set_up on, fields hold what their types let them hold: so the premises of the theorems on exchanges and words are met.
+-- From set-up on, fields hold what their types let them hold: so the premises of the theorems on exchanges and words are met.
 -- Assumes nothing.
 use mathlib.Core.Bool.{Bool, true, false, cond}
 use mathlib.Core.List.{List, [], ◌∷◌, ◌++◌}

@@ -148,7 +148,7 @@ shut_run : (s : State) (es : List Event) → is_open s ≡ false → Throughout 
 shut_run s [] o f = refl
 shut_run s (e ∷ es) o (f, fs) = let k = shut_event s e (accepted s e) refl o f in shut_run (step s e) es k.0 fs ∙ k.1
 
--- ---- since set_up
+-- ---- since set-up
 
 module _ (u : Setup) (first : Sample) (a : (set_up_of u first).answer ≡ 0) where
   abbrev start : State

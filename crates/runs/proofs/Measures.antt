@@ -85,7 +85,7 @@ over s es start stop (took-then {x = x} {n = n} {es = later} k r) h c =
 pub time_true : TimeTrue
 time_true s es start stop h c n = (over s es start stop (seen_through s es h) c n).1
 
--- ---- since set_up
+-- ---- since set-up
 
 pub set_up_sound : (u : Setup) (first : Sample) → (set_up_of u first).answer ≡ 0 → sound_of (from_set_up u first) ≡ true
 set_up_sound u first a = sound_when_served u first ∙ ap (λ (n : ℕ). eqb n 0) a

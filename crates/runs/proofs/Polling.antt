@@ -83,7 +83,7 @@ status_read = record { service = []; factory = []; read = true; bytes = read_byt
 shown : (s : State) → sound_of s ≡ true → word_of s 0x16 % 16 ≡ s.error
 shown s h = (status_shows s status_read h (omega arith) (refl, refl)).1
 
--- set_up gives code 0, served or refused
+-- set-up gives code 0, served or refused
 begins_at_0 : (u : Setup) (first : Sample) → (from_set_up u first).error ≡ 0
 unfolding set_up_of
 begins_at_0 u first = go (set_up_refused u)

@@ -1,4 +1,4 @@
--- Request R-5 over histories: two packs of one set_up but for the choice, one with PEC and one plain, and the same history.
+-- Request R-5 over histories: two packs of one set-up but for the choice, one with PEC and one plain, and the same history.
 -- Assumes nothing.
 use Rattle.std.specs.Prelude.{ℕ, ◌*◌, ◌≤◌, ◌<◌, Bool, true, false, List, [], ◌∷◌, map, ◌≡◌, take, drop}
 use Rattle.broadcasts.specs.Broadcasts.{messages_of, broadcast_of}
@@ -17,7 +17,7 @@ use Rattle.runs.specs.Since.{from_set_up}
 use Rattle.start.specs.SetUp.{set_up_of}
 use Rattle.start.specs.declared.Setup.{Setup}
 
--- what set_up brings, with the choice made so
+-- what set-up brings, with the choice made so
 abbrev pub setup_as : Bool → Setup → Setup
 setup_as plain u =
     record {
@@ -57,7 +57,7 @@ pub record ButForPec (s t : State) (es : List Event) : Type 0 where
   pub broadcast : broadcasts t es ≡ map without_pec (broadcasts s es)
   pub answers : AnsweredAlike s t es
 
--- so for two packs of one served set_up but for the choice
+-- so for two packs of one served set-up but for the choice
 abbrev pub PecTakenOff : Type 0
 PecTakenOff =
     (u : Setup) (first : Sample) (es : List Event) → (set_up_of u first).answer ≡ 0 → Throughout Roomy (from_set_up (setup_as false u) first) es

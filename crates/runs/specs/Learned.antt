@@ -30,7 +30,7 @@ CyclesFrom =
     (s : State) (es : List Event) → sound_of s ≡ true → Signed16 (accepted_of s es)
     → Cycled s.pack.settings.DesignCapacity s.pack.tank (drawn_over s es) (run s es).pack.tank
 
--- register 17 is the smaller of 65,535 and set-up's number plus floor(all charge drawn since set_up ÷ design capacity)
+-- register 17 is the smaller of 65,535 and set-up's number plus floor(all charge drawn since set-up ÷ design capacity)
 abbrev pub CyclesSinceSetUp : Type 0
 CyclesSinceSetUp =
     (u : Setup) (first : Sample) (es : List Event) → (set_up_of u first).answer ≡ 0 → u.CycleCount < 65536 → Signed16 (accepted_of (from_set_up u first) es)

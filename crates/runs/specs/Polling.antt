@@ -32,7 +32,7 @@ pub record PollingIsIdle (s : State) (es : List Event) : Type 0 where
   pub timers : (run s es).pack.timers ≡ (run s (unpolled es)).pack.timers
   pub registers : SameRegisters (run s (unpolled es)) (run s es)
 
--- so over any history since a served set_up (RULES 16.5)
+-- so over any history since a served set-up (RULES 16.5)
 abbrev pub PollingDisturbsNothing : Type 0
 PollingDisturbsNothing = (u : Setup) (first : Sample) (es : List Event) → (set_up_of u first).answer ≡ 0 → PollingIsIdle (from_set_up u first) es
 
@@ -43,7 +43,7 @@ AppsDontMeet =
     → (r : Struck pack_party (from_set_up u first) es (strike pack_party second (from_set_up u first) es))
     × Undisturbed (from_set_up u first) (from_set_up u first) es (strike pack_party second (from_set_up u first) es) r
 
--- the exception is needed: from every served set_up some idle call changes what the low four bits of BatteryStatus show
+-- the exception is needed: from every served set-up some idle call changes what the low four bits of BatteryStatus show
 abbrev pub CodeIsShared : Type 0
 CodeIsShared =
     (u : Setup) (first : Sample) → (set_up_of u first).answer ≡ 0

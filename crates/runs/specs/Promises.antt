@@ -50,7 +50,7 @@ TimeTrue =
     (s : State) (es : List Event) (start stop : ℕ) → sound_of s ≡ true → s.pack.latest.counter ≡ start % 2 ^ 32
     → Counted start (accepted_of s es) stop → time_of s es ≡ stop - start
 
--- ---- what a program can hold: from set_up on, fields hold what their types let them hold
+-- ---- what a program can hold: from set-up on, fields hold what their types let them hold
 
 -- over any history
 abbrev pub RunFits : Type 0
@@ -60,7 +60,7 @@ RunFits = (s : State) (es : List Event) → Fits s → Throughout EventFits s es
 abbrev pub AcceptedSigned : Type 0
 AcceptedSigned = (s : State) (es : List Event) → Throughout EventFits s es → Signed16 (accepted_of s es)
 
--- and in every state that is reached from set_up, served or refused, fields hold what their types let them hold
+-- and in every state that is reached from set-up, served or refused, fields hold what their types let them hold
 abbrev pub ReachedFits : Type 0
 ReachedFits =
     (u : Setup) (first : Sample) (es : List Event) → SetupFits u → SampleFits first → Throughout EventFits (from_set_up u first) es
@@ -73,7 +73,7 @@ ReachedExchanged =
     → (c : Call) (command : ℕ) → Bytes c.bytes → Bytes c.service → Bytes c.factory
     → Reads c command → served (answer (run (from_set_up u first) es) c) ≡ true → Exchanged (run (from_set_up u first) es) c
 
--- and from a served set_up every word is below 65,536
+-- and from a served set-up every word is below 65,536
 abbrev pub ReachedWords : Type 0
 ReachedWords =
     (u : Setup) (first : Sample) (es : List Event) (command : ℕ) → (set_up_of u first).answer ≡ 0
@@ -81,19 +81,19 @@ ReachedWords =
 
 -- ---- what is measured
 
--- latest sample, recent minute and tank depend on what set_up fixed and on the accepted samples only
+-- latest sample, recent minute and tank depend on what set-up fixed and on the accepted samples only
 abbrev pub MeasuresOfAccepted : Type 0
 MeasuresOfAccepted =
     (s : State) (es : List Event) → sound_of s ≡ true
     → measures_of (run s es).pack ≡ measures_after s.pack.settings (measures_of s.pack) (accepted_of s es)
 
--- the kept totals are exactly those of the last 60 complete seconds since set_up, and the begun one has the rest
+-- the kept totals are exactly those of the last 60 complete seconds since set-up, and the begun one has the rest
 abbrev pub MinuteSinceSetUp : Type 0
 MinuteSinceSetUp =
     (u : Setup) (first : Sample) (es : List Event) → (set_up_of u first).answer ≡ 0 → Signed16 (accepted_of (from_set_up u first) es)
     → (run (from_set_up u first) es).pack.recent ≡ recent_of (milliseconds first.counter (accepted_of (from_set_up u first) es))
 
--- register 0B as a signed number is the average over the last 60 complete seconds of all milliseconds since set_up; with none complete, the latest current
+-- register 0B as a signed number is the average over the last 60 complete seconds of all milliseconds since set-up; with none complete, the latest current
 abbrev pub AverageSinceSetUp : Type 0
 AverageSinceSetUp =
     (u : Setup) (first : Sample) (es : List Event) → (set_up_of u first).answer ≡ 0 → Signed16 (first ∷ accepted_of (from_set_up u first) es)
@@ -150,7 +150,7 @@ AlarmIsSent =
 abbrev pub AlarmIn11s : Type 0
 AlarmIn11s = (s : State) (es : List Event) → sound_of s ≡ true → Throughout Alarming s es → 10000 ≤ time_of s es → AlarmWithin 11000 s es
 
--- at once for the first: at the first sample since set_up at which a bit is set with ALARM_MODE clear
+-- at once for the first: at the first sample since set-up at which a bit is set with ALARM_MODE clear
 abbrev pub FirstAtOnce : Type 0
 FirstAtOnce =
     (u : Setup) (first : Sample) (es : List Event) (x : Sample) → (set_up_of u first).answer ≡ 0 → Throughout NoAlarm (from_set_up u first) es
@@ -227,7 +227,7 @@ ReadBack =
 abbrev pub PackStep : Type 0
 PackStep = StepLaw pack_party
 
--- any history since a served set_up, and the same with any of its idle events struck out
+-- any history since a served set-up, and the same with any of its idle events struck out
 abbrev pub ChatterIsIdle : Type 0
 ChatterIsIdle =
     (u : Setup) (first : Sample) (es fs : List Event) → (set_up_of u first).answer ≡ 0

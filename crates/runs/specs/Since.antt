@@ -19,7 +19,7 @@ use Rattle.capacity.specs.Capacity.{milliamp_ms}
 use Rattle.seconds.specs.Seconds.{recent_after}
 use Rattle.recent.specs.declared.Recent.{Recent}
 
--- the state that set_up gives
+-- the state that set-up gives
 abbrev pub from_set_up : Setup → Sample → State
 from_set_up u first = (set_up_of u first).state
 
@@ -33,7 +33,7 @@ pub record Measures : Type 0 where
 abbrev pub measures_of : Pack → Measures
 measures_of p = record { latest = p.latest; recent = p.recent; tank = p.tank }
 
--- what samples one after another make of that, by what set_up fixed, the oldest first
+-- what samples one after another make of that, by what set-up fixed, the oldest first
 abbrev pub measures_after : Settings → Measures → List Sample → Measures
 measures_after s m [] = m
 measures_after s m (x ∷ xs) =

@@ -1,4 +1,4 @@
--- Document 02, R-2: time since set_up is cut into whole seconds, and each sample's current counts for the milliseconds since the sample before, shared
+-- Document 02, R-2: time since set-up is cut into whole seconds, and each sample's current counts for the milliseconds since the sample before, shared
 -- among the seconds it crosses.
 -- Assumes nothing.
 use Rattle.std.specs.Prelude.{ℕ, ◌+◌, ◌-◌, ◌/◌, ◌%◌, min, cond, ◌∷◌, ◌++◌, take, replicate, pos, ◌+ℤ◌, ◌*ℤ◌, nat_lt}

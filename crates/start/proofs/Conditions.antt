@@ -1,4 +1,4 @@
--- What the set_up conditions say where set_up is served.
+-- What the set-up conditions say where set-up is served.
 -- Assumes nothing.
 use mathlib.Core.Bool.{false}
 use mathlib.Core.Path.{◌≡◌}
@@ -9,7 +9,7 @@ use Rattle.start.specs.Facts.{Served}
 use Rattle.start.specs.SetUp.{set_up_refused}
 use Rattle.start.specs.declared.Setup.{Setup}
 
--- set_up that isn't refused meets all four
+-- set-up that isn't refused meets all four
 pub served : (u : Setup) → set_up_refused u ≡ false → Served u
 served u h =
     let h3 = (or-eq-false-eq-eq-false-and-eq-false _ _).0 h in

@@ -3,7 +3,7 @@
 use Rattle.std.specs.Prelude.{◌<◌, ◌≤◌}
 use Rattle.start.specs.declared.Setup.{Setup}
 
--- set_up that isn't refused
+-- set-up that isn't refused
 pub record Served (u : Setup) : Type 0 where
   pub design : 0 < u.DesignCapacity
   pub full : 0 < u.full

@@ -1,4 +1,4 @@
--- What set_up promises. start's proofs/Start proves each.
+-- What set-up promises. start's proofs/Start proves each.
 -- Assumes nothing.
 use Rattle.std.specs.Prelude.{◌/◌, false, ◌⊎◌, ◌≡◌, eqb}
 use Rattle.pack.specs.Fits.{Fits, SampleFits}

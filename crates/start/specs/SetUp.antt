@@ -1,4 +1,4 @@
--- Document 01, Answer number 11, and Registers: what set_up gives. Answer 11 and the all-zero state, or 0 and the state of the first sample.
+-- Document 01, Answer number 11, and Registers: what set-up gives. Answer 11 and the all-zero state, or 0 and the state of the first sample.
 -- Assumes nothing.
 use Rattle.std.specs.Prelude.{◌/◌, Bool, false, cond, ◌||◌, ltb, eqb}
 use Rattle.pack.specs.Kept.{latest_of}
@@ -20,7 +20,7 @@ abbrev pub set_up_refused : Setup → Bool
 set_up_refused u =
     eqb u.DesignCapacity 0 || eqb u.full 0 || eqb u.DesignVoltage 0 || ltb u.full u.remaining
 
--- what set_up fixes, the choice plain among it (RULES 3.9, 8.7)
+-- what set-up fixes, the choice plain among it (RULES 3.9, 8.7)
 abbrev pub settings_of : Setup → Settings
 settings_of u =
     record {
@@ -49,7 +49,7 @@ host_of u =
       CapacityMode = false;
     }
 
--- charge in mA·ms; bit 4 is decided at set_up from clear; nothing is drawn toward the next cycle; a run opens when set_up leaves the pack full (RULES 3.9, 3.10, 6.23, 7.11)
+-- charge in mA·ms; bit 4 is decided at set-up from clear; nothing is drawn toward the next cycle; a run opens when set-up leaves the pack full (RULES 3.9, 3.10, 6.23, 7.11)
 abbrev pub tank_of : Setup → Tank
 tank_of u =
     record {
@@ -65,7 +65,7 @@ tank_of u =
 abbrev pub first_timers : Timers
 first_timers = record { hold = 0; alarm = 10000; charger = 0 }
 
--- the pack that set_up gives; no second is complete, none begun (RULES 3.9, 3.10)
+-- the pack that set-up gives; no second is complete, none begun (RULES 3.9, 3.10)
 unfoldable pub pack_of : Setup → Sample → Pack
 pack_of u first =
     record {
@@ -129,7 +129,7 @@ zero_pack =
 abbrev pub zero_state : State
 zero_state = record { error = 0; pack = zero_pack }
 
--- ---- set_up
+-- ---- set-up
 
 -- 11 and the all-zero state where refused; else 0 and a state with error code 0 (RULES 1.11)
 unfoldable pub set_up_of : Setup → Sample → Started

@@ -21,13 +21,13 @@ use Rattle.thirteen_pack.specs.declared.Fixed.{Fixed}
 use Rattle.thirteen_pack.specs.declared.Level.{Level}
 use Rattle.thirteen_pack.specs.declared.ThirteenState.{ThirteenState}
 
--- ---- what set_up fixes
+-- ---- what set-up fixes
 
 -- the bytes of each word (RULES 15.12)
 abbrev pub fixed_widths : List ℕ
 fixed_widths = 2 ∷ 2 ∷ 2 ∷ []
 
--- what set_up fixes as numbers (RULES 15.12)
+-- what set-up fixes as numbers (RULES 15.12)
 abbrev pub fixed_numbers : Fixed → List ℕ
 fixed_numbers f = f.DesignCapacity ∷ f.DesignVoltage ∷ f.StateOfHealth ∷ []
 
@@ -85,7 +85,7 @@ is_level part = flags (drop 2 (numbers_at level_widths part 0))
 
 -- ---- where each part behind the error code starts, and the bytes that an area has
 
--- what set_up fixes starts here (RULES 15.12)
+-- what set-up fixes starts here (RULES 15.12)
 abbrev pub fixed_at : ℕ
 fixed_at = 1
 

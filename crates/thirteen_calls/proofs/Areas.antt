@@ -52,7 +52,7 @@ pub stored : (s : ThirteenState) (room : List ℕ) → length room ≡ thirteen_
 unfolding stored_room
 stored s room n most = rw (eq-eqb _ _ n, le-leb s.pack.recent.count 255 (omega (arith, most)))
 
--- ---- set_up
+-- ---- set-up
 
 pub start_most : (u : Setup) (health : ℕ) (first : Sample) (cells : List ℕ) → (set_up_of u health first cells).state.pack.recent.count ≤ 60
 unfolding set_up_of pack_of

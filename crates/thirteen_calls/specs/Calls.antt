@@ -12,11 +12,11 @@ use Rattle.thirteen_pack.specs.declared.ThirteenSampled.{ThirteenSampled}
 use Rattle.thirteen_pack.specs.declared.ThirteenStarted.{ThirteenStarted}
 use Rattle.thirteen_pack.specs.declared.ThirteenState.{ThirteenState}
 
--- the area after a set_up or a sample: what is answered 0 stores its whole state, a refusal nothing (RULES 15.4, 15.5, 15.12)
+-- the area after a set-up or a sample: what is answered 0 stores its whole state, a refusal nothing (RULES 15.4, 15.5, 15.12)
 abbrev pub area_after : List ℕ → ℕ → ThirteenState → List ℕ
 area_after area answer state = cond (eqb answer 0) (thirteen_area_of state) area
 
--- ---- set_up
+-- ---- set-up
 
 -- set-up's own answer; 1 for an area of another size (RULES 15.4, 15.12)
 abbrev pub start_number : List ℕ → ThirteenStarted → ℕ

@@ -1,4 +1,4 @@
--- Since set_up charge, bit 4, the minute and so 0D, 11 and 13 are document 01's.
+-- Since set-up charge, bit 4, the minute and so 0D, 11 and 13 are document 01's.
 -- Assumes nothing.
 use Prim.Native.Nat.{ℕ}
 use mathlib.Core.Bool.{Bool, true, false, cond, ◌&&◌, not, and-false}
@@ -97,9 +97,9 @@ after s t m (sample x cells ∷ es) h a =
     (subst (λ (u : ThirteenState). AsOne u.pack (measures_after (unlimited s) m (x ∷ []))) (sym (goes_on t x cells h)) (sampled_as_one s t.pack m x cells a))
 after s t m (call c ∷ es) h a = after s (step t (call c)) m es (step_sound t (call c) h) a
 
--- ---- from set_up on
+-- ---- from set-up on
 
--- what a served set_up gives
+-- what a served set-up gives
 set_up_pack : (u : Setup) (health : ℕ) (first : Sample) (cells : List ℕ) → (set_up_of u health first cells).answer ≡ 0
     → from_set_up u health first cells ≡ record { error = 0; pack = pack_of u health first cells }
 unfolding set_up_of

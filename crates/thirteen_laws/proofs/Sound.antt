@@ -34,7 +34,7 @@ use Rattle.thirteen_pack.specs.declared.ThirteenSampled.{ThirteenSampled}
 use Rattle.thirteen_pack.specs.declared.ThirteenStarted.{ThirteenStarted}
 use Rattle.thirteen_pack.specs.declared.ThirteenState.{ThirteenState}
 
--- ---- set_up
+-- ---- set-up
 
 abbrev refusal : ThirteenStarted
 refusal = record { answer = 11; state = zero_state }

@@ -43,7 +43,7 @@ thirteen_party =
       Gives = λ s t e. (answer_to s e ≡ answer_to t e) × (reply_to s e ≡ reply_to t e);
     }
 
--- since a served set_up any of its idle events can be struck out: the end is the same but for the error code, and every event that stays gives the same (RULES 16.6)
+-- since a served set-up any of its idle events can be struck out: the end is the same but for the error code, and every event that stays gives the same (RULES 16.6)
 abbrev pub ChatterIsIdle : Type 0
 ChatterIsIdle =
     (u : Setup) (health : ℕ) (first : Sample) (cells : List ℕ) (es fs : List Event) → (set_up_of u health first cells).answer ≡ 0

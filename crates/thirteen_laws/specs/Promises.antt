@@ -148,7 +148,7 @@ ServedOrZero =
 abbrev pub SoundStays : Type 0
 SoundStays = (s : ThirteenState) (es : List Event) → sound_of s ≡ true → sound_of (run s es) ≡ true
 
--- set_up gives a state whose fields hold what their types let them hold
+-- set-up gives a state whose fields hold what their types let them hold
 abbrev pub StartFits : Type 0
 StartFits =
     (u : Setup) (health : ℕ) (first : Sample) (cells : List ℕ) → SetupFits u → health < 65536 → SampleFits first → CellsFit cells

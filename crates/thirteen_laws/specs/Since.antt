@@ -1,4 +1,4 @@
--- Request R-10: since set_up charge, bit 4, the minute and so 0D, 11 and 13 are document 01's, as the first pack has them where it closes no run.
+-- Request R-10: since set-up charge, bit 4, the minute and so 0D, 11 and 13 are document 01's, as the first pack has them where it closes no run.
 -- Assumes nothing.
 use Rattle.std.specs.Prelude.{ℕ, false, List, ◌∷◌, ◌≡◌, pos}
 use Rattle.std.specs.Int.{w16}
@@ -46,7 +46,7 @@ unlimited s =
       plain = s.plain;
     }
 
--- 1. after set_up and any events it measures what a pack of that set_up, with no limit, measures after the same samples
+-- 1. after set-up and any events it measures what a pack of that set-up, with no limit, measures after the same samples
 abbrev pub AsThePack : Type 0
 AsThePack =
     (u : Setup) (health : ℕ) (first : Sample) (cells : List ℕ) (es : List Event) → (set_up_of u health first cells).answer ≡ 0
@@ -73,7 +73,7 @@ FullStays =
     (u : Setup) (health : ℕ) (first : Sample) (cells : List ℕ) (es : List Event) → (set_up_of u health first cells).answer ≡ 0
     → (run (from_set_up u health first cells) es).pack.level.full ≡ u.full
 
--- 4. the average that 13 is worked out from is the rule's, over all milliseconds since set_up
+-- 4. the average that 13 is worked out from is the rule's, over all milliseconds since set-up
 abbrev pub AverageSinceSetUp : Type 0
 AverageSinceSetUp =
     (u : Setup) (health : ℕ) (first : Sample) (cells : List ℕ) (es : List Event) → (set_up_of u health first cells).answer ≡ 0

@@ -1,4 +1,4 @@
--- Request R-10: what set_up gives. Answer 11 and the all-zero state, or 0 and the state of the first sample.
+-- Request R-10: what set-up gives. Answer 11 and the all-zero state, or 0 and the state of the first sample.
 -- Assumes nothing.
 use Rattle.std.specs.Prelude.{ℕ, false, cond, List, replicate}
 use Rattle.capacity.specs.Capacity.{milliamp_ms, fully_discharged_of}
@@ -13,7 +13,7 @@ use Rattle.thirteen_pack.specs.declared.Thirteen.{Thirteen}
 use Rattle.thirteen_pack.specs.declared.ThirteenStarted.{ThirteenStarted}
 use Rattle.thirteen_pack.specs.declared.ThirteenState.{ThirteenState}
 
--- what set_up fixes, the state of health beside the pack's own (RULES 15.4)
+-- what set-up fixes, the state of health beside the pack's own (RULES 15.4)
 abbrev pub fixed_of : Setup → ℕ → Fixed
 fixed_of u health = record { DesignCapacity = u.DesignCapacity; DesignVoltage = u.DesignVoltage; StateOfHealth = health }
 
@@ -26,7 +26,7 @@ level_of u =
       FullyDischarged = fully_discharged_of false (milliamp_ms u.remaining) u.full;
     }
 
--- the pack that set_up gives; no second is complete, none begun (RULES 15.4)
+-- the pack that set-up gives; no second is complete, none begun (RULES 15.4)
 unfoldable pub pack_of : Setup → ℕ → Sample → List ℕ → Thirteen
 pack_of u health first cells =
     record { fixed = fixed_of u health; latest = latest_of first; cells = cells; level = level_of u; recent = zero_recent }
@@ -46,7 +46,7 @@ zero_state =
           };
     }
 
--- refused as the pack's set_up is: 11 and the all-zero state; else 0 and a state with error code 0 (RULES 1.11, 15.4)
+-- refused as the pack's set-up is: 11 and the all-zero state; else 0 and a state with error code 0 (RULES 1.11, 15.4)
 unfoldable pub set_up_of : Setup → ℕ → Sample → List ℕ → ThirteenStarted
 set_up_of u health first cells =
     cond (set_up_refused u) (record { answer = 11; state = zero_state })

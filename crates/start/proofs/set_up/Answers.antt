@@ -1,4 +1,4 @@
--- `start::set_up` meets its contract: refused, or the pack that set_up gives.
+-- `start::set_up` meets its contract: refused, or the pack that set-up gives.
 -- Assumes nothing.
 use Rattle.start.specs.SetUp.{set_up_of}
 use Rattle.start.proofs.Conditions.{served}

@@ -1,4 +1,4 @@
--- `thirteen_pack::set_up` meets its contract: refused, or the pack that set_up gives.
+-- `thirteen_pack::set_up` meets its contract: refused, or the pack that set-up gives.
 -- Assumes nothing.
 use mathlib.Core.Path.{◌∙◌, sym}
 use borrow.Author.Rules.{rules}
