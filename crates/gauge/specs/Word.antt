@@ -5,7 +5,7 @@ use Rattle.minutes.specs.Minutes.{given_word, given_answer}
 use Rattle.minutes.specs.declared.Given.{Given}
 use Rattle.minutes.specs.declared.Given.TheVariants.{Word, Until}
 use Rattle.registers.specs.Registers.{battery_mode, average_current, remaining_capacity, full_charge_capacity, design_capacity, relative_state_of_charge, absolute_state_of_charge}
-use Rattle.times.specs.Times.{at_rate_time_to_empty, at_rate_time_to_full, at_rate_oK, run_time_to_empty, average_time_to_empty, average_time_to_full}
+use Rattle.times.specs.Times.{at_rate_time_to_empty, at_rate_time_to_full, at_rate_ok, run_time_to_empty, average_time_to_empty, average_time_to_full}
 use Rattle.alarms.specs.Alarms.{charging_current}
 use Rattle.status.specs.Status.{battery_status}
 use Rattle.gauge.specs.declared.Shown.{Shown}
@@ -21,7 +21,7 @@ given_of s command =
     (cond (eqb command 0x04) (Word s.pack.host.AtRate)
     (cond (eqb command 0x05) (at_rate_time_to_full s.pack)
     (cond (eqb command 0x06) (Until (at_rate_time_to_empty s.pack))
-    (cond (eqb command 0x07) (Word (at_rate_oK s.pack))
+    (cond (eqb command 0x07) (Word (at_rate_ok s.pack))
     (cond (eqb command 0x08) (Word s.pack.latest.temperature)
     (cond (eqb command 0x09) (Word s.pack.latest.voltage)
     (cond (eqb command 0x0A) (Word s.pack.latest.current)

@@ -7,7 +7,7 @@ use Rattle.pack.specs.declared.Pack.{Pack}
 use Rattle.pack.specs.declared.State.{State}
 use Rattle.registers.specs.Registers.{battery_mode, average_current, remaining_capacity, full_charge_capacity, design_capacity, absolute_state_of_charge}
 use Rattle.status.specs.Status.{battery_status}
-use Rattle.times.specs.Times.{missing, at_rate_oK, rate_of}
+use Rattle.times.specs.Times.{missing, at_rate_ok, rate_of}
 use Rattle.words.specs.Words.{above, below, size_of}
 
 -- capacity by rate was a word: floor(60 × capacity ÷ rate), capped at 65,534; a rate that rounds to 0 gave 65,534
@@ -56,7 +56,7 @@ word_before s command =
     (cond (eqb command 0x04) s.pack.host.AtRate
     (cond (eqb command 0x05) (at_rate_time_to_full_word s.pack)
     (cond (eqb command 0x06) (at_rate_time_to_empty_word s.pack)
-    (cond (eqb command 0x07) (at_rate_oK s.pack)
+    (cond (eqb command 0x07) (at_rate_ok s.pack)
     (cond (eqb command 0x08) s.pack.latest.temperature
     (cond (eqb command 0x09) s.pack.latest.voltage
     (cond (eqb command 0x0A) s.pack.latest.current

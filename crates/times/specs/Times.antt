@@ -35,8 +35,8 @@ covers p =
     (leb (10000 * (size_of p.host.AtRate + present_discharge p)) p.tank.charge)
 
 -- 07 AtRateOK: 1 if AtRate is 0 or above; below 0, 1 exactly if charge covers (RULES 6.8)
-abbrev pub at_rate_oK : Pack → ℕ
-at_rate_oK p = cond (below p.host.AtRate) (cond (covers p) 1 0) 1
+abbrev pub at_rate_ok : Pack → ℕ
+at_rate_ok p = cond (below p.host.AtRate) (cond (covers p) 1 0) 1
 
 -- a current's rate: mA; in power mode floor(|mA| × mV ÷ 10,000), with the latest voltage (RULES 6.17)
 abbrev pub rate_of : Pack → ℕ → ℕ

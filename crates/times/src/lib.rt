@@ -2,7 +2,7 @@
 #![tactic(auto)]
 
 ghost use Rattle.std.specs.Prelude.{◌≡◌, true, ◌≤◌};
-ghost use Rattle.times.specs.Times.{missing, at_rate_time_to_empty, at_rate_time_to_full, present_discharge, covers, at_rate_oK, rate_of, time_to_empty_at, run_time_to_empty, average_time_to_empty, average_time_to_full};
+ghost use Rattle.times.specs.Times.{missing, at_rate_time_to_empty, at_rate_time_to_full, present_discharge, covers, at_rate_ok, rate_of, time_to_empty_at, run_time_to_empty, average_time_to_empty, average_time_to_full};
 ghost use Rattle.pack.specs.Sound.{tank_sound};
 ghost use Rattle.recent.specs.Recent.{recent_sound};
 
@@ -74,7 +74,7 @@ fn covers_it(p: Pack) -> bool
 // 07 AtRateOK.
 pub fn at_rate_ok(p: Pack) -> u16
     requires { tank_sound p.tank ≡ true }
-    ensures { result ≡ at_rate_oK p }
+    ensures { result ≡ at_rate_ok p }
 {
     if words::falls(p.host.AtRate) {
         return registers::flag(covers_it(p), 1);
