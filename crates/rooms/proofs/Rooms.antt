@@ -1,13 +1,14 @@
 -- Bytes one by one, and what stores leave in a room: several in a row, at its front, over the whole of it.
 -- Assumes nothing.
-use mathlib.Core.Path.{◌≡◌, ap, ◌∙◌}
-use mathlib.Core.List.{List, [], ◌∷◌, ◌++◌, append-nil}
+use mathlib.Core.Path.{◌≡◌, ap, sym, ◌∙◌}
+use mathlib.Core.List.{List, [], ◌∷◌, ◌++◌, append-nil, append_assoc}
 use Prim.Native.Nat.{ℕ, zero, suc, ◌+◌, ◌≤◌, ◌<◌}
 use native.Mathlib.Nat.{add-zero}
 use native.Mathlib.Numerals.{add-one}
 use native.Mathlib.Omega.{arith}
+use borrow.Rule.Slice.PartMut.{put_mid}
 use lib.ListN.{length, get_or, take, drop, set, drop_of_length-le}
-use lib.Seq.{sets, sets-eq, take-suc, length-take-le, drop-append_seam}
+use lib.Seq.{drop-drop, sets, sets-eq, take-suc, length-take-le, drop-append_seam}
 use Rattle.rooms.specs.Rooms.{Bytes, placed}
 
 -- each of bytes is a byte
@@ -42,6 +43,10 @@ pub one_more : (l : List ℕ) (at i : ℕ) (bytes : List ℕ) {m : List ℕ} →
 one_more l at i bytes h e =
     let n : length (take i bytes) ≡ i = length-take-le i bytes (omega arith) in
     rw (add-one, take-suc bytes i 0 h) (then l at (at + i) (take i bytes) (get_or bytes i 0 ∷ []) e (omega arith))
+
+-- a part of a room that now holds bytes is the room with those bytes stored in a row
+pub part_stored : (room bytes part : List ℕ) (at k : ℕ) → k ≡ length bytes → part ≡ bytes → at + length bytes ≤ length room → put_mid at k room part ≡ sets room at bytes
+part_stored room bytes part at k e f h = rw (e, f, drop-drop (length bytes) at room, sets-eq bytes room at h) (sym (append_assoc (take at room) bytes _))
 
 -- stores from the first place on put the bytes at the front
 pub front : (bytes room : List ℕ) → length bytes ≤ length room → sets room 0 bytes ≡ placed bytes room

@@ -1,7 +1,6 @@
 -- Bytes, and bytes put into a lent room.
 -- Assumes nothing.
 use Rattle.std.specs.Prelude.{ℕ, ◌+◌, ◌-◌, ◌<◌, List, [], ◌∷◌, ◌++◌, length, take, drop}
-use Rattle.rooms.specs.declared.Wrote.{Wrote}
 
 -- every element is a byte
 abbrev pub Bytes : List ℕ → Type 0
@@ -19,7 +18,3 @@ further n place = (place.0, n + place.1)
 -- bytes at the front of a room; the rest of the room stays
 abbrev pub placed : List ℕ → List ℕ → List ℕ
 placed bytes room = bytes ++ drop (length bytes) room
-
--- an answer, and how many bytes were written
-abbrev pub wrote : ℕ → ℕ → Wrote
-wrote answer length = record { answer = answer; length = length }
