@@ -1,6 +1,6 @@
 -- Request R-7: what every byte string is answered by the charger, the reply, and the state left.
 -- Assumes nothing.
-use Rattle.std.specs.Prelude.{ℕ, Bool, false, cond, List, [], length}
+use Rattle.std.specs.Prelude.{ℕ, Bool, false, cond, List, [], length, Option, Some, None}
 use Rattle.charger_state.specs.Charger.{sound_of, word_of}
 use Rattle.charger.specs.Commands.{charger_kind}
 use Rattle.charger_written.specs.Written.{charger_written}
@@ -8,6 +8,7 @@ use Rattle.charger_state.specs.declared.Charger.{Charger}
 use Rattle.charger.specs.declared.Transacted.{Transacted}
 use Rattle.commands.specs.Answers.{Side, read_answer, side_answer, served, side_reply, row_reply}
 use Rattle.commands.specs.declared.Kind.{Kind}
+use Rattle.device.specs.declared.Written.{Written}
 use Rattle.frame.specs.Transactions.{request_of}
 use Rattle.frame.specs.declared.Request.{Request}
 use Rattle.frame.specs.declared.Request.TheVariants.{Refused, Read, Write}
@@ -34,6 +35,11 @@ abbrev pub charger_after : Charger → Request → ℕ → Charger
 charger_after s (Refused n) answer = s
 charger_after s (Read command) answer = s
 charger_after s (Write command word checked) answer = cond (served answer) (charger_written s command word) s
+
+-- the same, by the write that is served
+abbrev pub left_by : Charger → Option Written → Charger
+left_by s None = s
+left_by s (Some write) = charger_written s write.command write.word
 
 -- answer, state and number of reply bytes; the charger keeps no error code (RULES 14.1)
 abbrev pub outcome : ℕ → Charger → ℕ → Transacted

@@ -1,16 +1,15 @@
 // The charger's side: a Level 2 charger at address 0x12, which takes the pack's words and stops by silence, alarm or inhibition.
 #![tactic(auto)]
 
-ghost use Rattle.std.specs.Prelude.{◌≡◌, cond, ◌≤◌, length};
+ghost use Rattle.std.specs.Prelude.{◌≡◌, length};
 ghost use Rattle.charger.specs.Commands.{is_shown, is_taken, charger_kind};
 ghost use Rattle.charger.specs.Delivered.{message_at, message_place};
-ghost use Rattle.charger.specs.Transact.{charger_side, outcome, row_given, transact_of, reply_room};
-ghost use Rattle.charger_written.specs.Written.{charger_written};
-ghost use Rattle.commands.specs.Answers.{write_answer, served, row_reply};
-ghost use Rattle.rooms.specs.Rooms.{placed};
+ghost use Rattle.charger.specs.Transact.{charger_side, left_by, transact_of, reply_room};
 
 use charger_state::Charger;
-use frame::Request;
+use commands::Kind;
+use device::{Device, Replied, Written};
+use minutes::Shown;
 
 // What a transaction gives back: its answer, the state left, the number of reply bytes.
 #[derive(Clone, Copy)]
@@ -22,59 +21,83 @@ pub struct Transacted {
 
 // ---- transactions
 
+// The charger as a device on the bus.
+#[derive(Clone, Copy)]
+struct OnBus {
+    state: Charger,
+}
+
 // Read only.
 fn is_shown(command: u8) -> bool
     ensures { result ≡ is_shown command }
 {
-    (command == 0x11) | (command == 0x13)
+    matches!(command, 0x11 | 0x13)
 }
 
 // Write only.
 fn is_taken(command: u8) -> bool
     ensures { result ≡ is_taken command }
 {
-    (command == 0x12) | ((0x14 <= command) & (command <= 0x16))
+    matches!(command, 0x12 | 0x14..=0x16)
 }
 
-fn given(s: Charger, answer: u8, length: usize) -> Transacted
-    ensures { result ≡ outcome answer s length }
-{
-    Transacted {
-        answer: answer,
-        state: s,
-        length: length,
-    }
-}
-
-// A read, by its command's row.
-fn serve_read(s: Charger, command: u8, bytes: &[u8], room: &mut [u8]) -> Transacted
-    requires { 3 ≤ length room.old }
-    ensures result { result ≡ row_given s bytes.now command (charger_kind command) }
-    ensures memory { room.new ≡ placed (row_reply (charger_side s) bytes.now command (charger_kind command)) room.old }
+// A command's row.
+fn row(command: u8) -> Kind
+    ensures { result ≡ charger_kind command }
 {
     if is_shown(command) {
-        let shown = charger_state::word(s, command);
-        let length = frame::put_word(room, bytes, shown);
-        return given(s, 0, length);
+        return Kind::ReadOnly;
     }
     if is_taken(command) {
-        return given(s, 8, 0);
+        return Kind::WriteOnly;
     }
-    given(s, 6, 0)
+    Kind::Reserved
 }
 
-// A write, by its command's row.
-fn serve_write(s: Charger, command: u8, word: u16) -> Transacted
-    ensures { result ≡ outcome (write_answer (charger_kind command)) (cond (served (write_answer (charger_kind command))) (charger_written s command word) s) 0 }
+impl Device for OnBus {
+    ghost side = { λ charger. charger_side charger.state };
+
+    fn address(&self) -> u8 {
+        0x12
+    }
+
+    fn must_check(&self) -> bool {
+        false
+    }
+
+    fn least(&self) -> usize {
+        3
+    }
+
+    fn is_sound(&self) -> bool {
+        charger_state::sound(self.state)
+    }
+
+    fn kind(&self, command: u8) -> Kind {
+        row(command)
+    }
+
+    // Every word is answered 0.
+    fn word(&self, command: u8) -> Shown {
+        let word = charger_state::word(self.state, command);
+        Shown { answer: 0, word }
+    }
+
+    // It has no block.
+    fn put_block(&self, _command: u8, request: &[u8], room: &mut [u8]) -> Replied {
+        let length = frame::put_body(room, request, &[]);
+        Replied { answer: 0, length }
+    }
+}
+
+// What a transaction leaves: only a served write changes the state.
+fn left(s: Charger, write: Option<Written>) -> Charger
+    ensures { result ≡ left_by s write }
 {
-    if is_shown(command) {
-        return given(s, 8, 0);
+    match write {
+        Some(write) => charger_written::written(s, write.command, write.word),
+        None => s,
     }
-    if is_taken(command) {
-        let state = charger_written::written(s, command, word);
-        return given(state, 0, 0);
-    }
-    given(s, 6, 0)
 }
 
 // What the driver's bytes and mark are answered.
@@ -82,20 +105,11 @@ pub fn transact(s: Charger, read: bool, bytes: &[u8], room: &mut [u8]) -> Transa
     ensures result { result ≡ transact_of s read bytes.now (length room.old) }
     ensures memory { room.new ≡ reply_room s read bytes.now room.old }
 {
-    if !charger_state::sound(s) {
-        return given(s, 1, 0);
-    }
-    if room.len() < 3 {
-        return given(s, 2, 0);
-    }
-    match frame::recognise(0x12, read, bytes) {
-        Request::Refused(answer) => given(s, answer, 0),
-        Request::Read(command) => serve_read(s, command, bytes, room),
-        Request::Write {
-            command,
-            word,
-            checked: _,
-        } => serve_write(s, command, word),
+    let done = device::transact(&OnBus { state: s }, read, bytes, room);
+    Transacted {
+        answer: done.answer,
+        state: left(s, done.write),
+        length: done.length,
     }
 }
 

@@ -81,3 +81,10 @@ pub fn given_answer(g: Given) -> u8
         Given::NoTime => 10,
     }
 }
+
+// What a word read gives: its answer, 0 or 10, and its word.
+#[derive(Clone, Copy)]
+pub struct Shown {
+    pub answer: u8,
+    pub word: u16,
+}

@@ -21,7 +21,7 @@ pub fn high(w: u16) -> u8
 pub fn join(low: u8, high: u8) -> u16
     ensures { result ≡ joined low high }
 {
-    (rooms::wide(low) + (rooms::wide(high) << 8)) as u16
+    u16::from_le_bytes([low, high])
 }
 
 // The word that a signed number is kept as: the one place where an i16 is met.

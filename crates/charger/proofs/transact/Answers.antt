@@ -1,47 +1,44 @@
--- `charger::transact` meets its contract: each return by the answer or the request that led there.
+-- `charger::transact` meets its contract: it is any side's transaction, and its write.
 -- Assumes nothing.
-use mathlib.Core.Path.{refl, sym, ◌∙◌}
-use native.Mathlib.Omega.{arith}
-use borrow.Author.Rules.{rules}
-use borrow.Author.Tests.{not-true, not-false}
+use Prim.Native.Nat.{ℕ}
+use mathlib.Core.Bool.{Bool, true, false, cond}
+use mathlib.Core.List.{List}
+use mathlib.Core.Path.{◌≡◌, refl, ap, ◌∙◌}
 use lib.ListN.{length}
-use Rattle.charger.proofs.Answers.{unsound, small-room, refusal, by_request}
+use Rattle.charger.specs.Transact.{charger_side, charger_after, left_by, outcome, asked, transact_answer, transact_reply, transact_of, reply_room}
+use Rattle.charger_state.specs.declared.Charger.{Charger}
+use Rattle.charger_written.specs.Written.{charger_written}
+use Rattle.commands.specs.Answers.{side_reply, served}
+use Rattle.device.specs.Device.{write_served, done_of, room_after}
+use Rattle.device.specs.declared.Done.{Done}
+use Rattle.frame.specs.declared.Request.{Request}
+use Rattle.frame.specs.declared.Request.TheVariants.{Refused, Read, Write}
+use Rattle.std.specs.Prelude.{Some, None}
 use Rattle.charger.proofs.transact.Goals as goal
 
-pub returns-then-not-sound : goal.returns-then-not-sound
-returns-then-not-sound c =
-    let a = c.args in
-    let e = refusal a.s a.read a.bytes.now a.room.now 1 (unsound a.s a.read a.bytes.now (length a.room.now) (sym c.sound.ensures ∙ c.if-not-sound.true)) refl in
-    record { result = c.given.ensures ∙ e.0; memory = e.1 }
+-- the write that is served makes what is left
+left_after : (s : Charger) (request : Request) (answer : ℕ) → left_by s (write_served request answer) ≡ charger_after s request answer
+left_after s (Refused n) answer = refl
+left_after s (Read command) answer = refl
+left_after s (Write command word checked) answer = go (served answer)
+  where
+    go : (b : Bool) → left_by s (cond b (Some (record { command = command; word = word })) None) ≡ cond b (charger_written s command word) s
+    go true = refl
+    go false = refl
 
-pub returns-then-room-lt3 : goal.returns-then-room-lt3
-returns-then-room-lt3 c =
-    let a = c.args in
-    let sound = sym c.sound.ensures ∙ c.if-not-sound.false in
-    let e = refusal a.s a.read a.bytes.now a.room.now 2 (small-room a.s a.read a.bytes.now (length a.room.now) sound c.if-room-lt3.true) refl in
-    record { result = c.given-then-room-lt3.ensures ∙ e.0; memory = e.1 }
+-- so any side's transaction is the charger's
+as_given : (s : Charger) (read : Bool) (bytes : List ℕ) (room : ℕ) (done : Done) (state : Charger) → done ≡ done_of (charger_side s) read bytes room → state ≡ left_by s done.write
+    → outcome done.answer state done.length ≡ transact_of s read bytes room
+unfolding done_of transact_answer transact_of
+as_given s read bytes room done state e f =
+    let answer = transact_answer s read bytes room in
+    ap (λ (x : Charger). outcome done.answer x done.length) f
+    ∙ ap (λ (x : Done). outcome x.answer (left_by s x.write) x.length) e
+    ∙ ap (λ (x : Charger). outcome answer x (length (side_reply (charger_side s) bytes (asked read bytes) answer))) (left_after s (asked read bytes) answer)
 
-pub serve_read-requires : goal.serve_read-requires
-serve_read-requires c = omega (arith, c.if-room-lt3.false)
-
-pub returns-in-Refused : goal.returns-in-Refused
-returns-in-Refused c =
+pub returns : goal.returns
+unfolding room_after transact_answer transact_reply reply_room
+returns c =
     let a = c.args in
-    let sound = sym c.sound.ensures ∙ c.if-not-sound.false in
-    let e = by_request a.s a.read a.bytes.now a.room.now _ sound c.if-room-lt3.false (sym c.recognise.ensures ∙ c.in-Refused.is) in
-    record { result = c.given-in-Refused.ensures ∙ e.0; memory = e.1 }
-
-pub returns-in-Read : goal.returns-in-Read
-returns-in-Read c =
-    let a = c.args in
-    let sound = sym c.sound.ensures ∙ c.if-not-sound.false in
-    let e = by_request a.s a.read a.bytes.now a.room.now _ sound c.if-room-lt3.false (sym c.recognise.ensures ∙ c.in-Read.is) in
-    let r = c.serve_read.ensures in
-    record { result = r.result ∙ e.0; memory = r.memory ∙ e.1 }
-
-pub returns-in-Write : goal.returns-in-Write
-returns-in-Write c =
-    let a = c.args in
-    let sound = sym c.sound.ensures ∙ c.if-not-sound.false in
-    let e = by_request a.s a.read a.bytes.now a.room.now _ sound c.if-room-lt3.false (sym c.recognise.ensures ∙ c.in-Write.is) in
-    record { result = c.serve_write.ensures ∙ e.0; memory = e.1 }
+    let done = c.transact-done.ensures in
+    record { result = as_given a.s a.read a.bytes.now (length a.room.now) _ _ done.result c.left.ensures; memory = done.memory }
