@@ -2,7 +2,7 @@
 #![tactic(auto)]
 
 ghost use Rattle.std.specs.Prelude.{◌≡◌};
-ghost use Rattle.minutes.specs.Minutes.{time_of, time_word, was_cut_off, given_word, given_answer};
+ghost use Rattle.minutes.specs.Minutes.{time_of, time_word, was_cut_off, given_word, given_answer, given_shown};
 
 // How long a capacity lasts at a rate: minutes, 0 to 65,534; longer than that; for ever, as nothing moves that way.
 #[derive(Clone, Copy)]
@@ -18,6 +18,13 @@ pub enum Given {
     Word(u16),
     Until(Time),
     NoTime,
+}
+
+// What a read shows of it: its answer, 0 or 10, and its word.
+#[derive(Clone, Copy)]
+pub struct Shown {
+    pub answer: u8,
+    pub word: u16,
 }
 
 // Capacity by rate, if the rate flows the command's way.
@@ -79,5 +86,16 @@ pub fn given_answer(g: Given) -> u8
         Given::Word(_) => 0,
         Given::Until(t) => if was_cut_off(t) { 10 } else { 0 },
         Given::NoTime => 10,
+    }
+}
+
+impl From<Given> for Shown {
+    ghost from_gives = { λ given shown. shown ≡ given_shown given };
+
+    fn from(given: Given) -> Shown {
+        Shown {
+            answer: given_answer(given),
+            word: given_word(given),
+        }
     }
 }
