@@ -10,15 +10,8 @@ ghost use Rattle.commands.specs.Answers.{write_answer, served, row_reply};
 ghost use Rattle.rooms.specs.Rooms.{placed};
 
 use charger_state::Charger;
+use commands::Transacted;
 use frame::Request;
-
-// What a transaction gives back: its answer, the state left, the number of reply bytes.
-#[derive(Clone, Copy)]
-pub struct Transacted {
-    pub answer: u8,
-    pub state: Charger,
-    pub length: usize,
-}
 
 // ---- transactions
 
@@ -36,7 +29,7 @@ fn is_taken(command: u8) -> bool
     (command == 0x12) | ((0x14 <= command) & (command <= 0x16))
 }
 
-fn given(s: Charger, answer: u8, length: usize) -> Transacted
+fn given(s: Charger, answer: u8, length: usize) -> Transacted<Charger>
     ensures { result ≡ outcome answer s length }
 {
     Transacted {
@@ -47,7 +40,7 @@ fn given(s: Charger, answer: u8, length: usize) -> Transacted
 }
 
 // A read, by its command's row.
-fn serve_read(s: Charger, command: u8, bytes: &[u8], room: &mut [u8]) -> Transacted
+fn serve_read(s: Charger, command: u8, bytes: &[u8], room: &mut [u8]) -> Transacted<Charger>
     requires { 3 ≤ length room.old }
     ensures result { result ≡ row_given s bytes.now command (charger_kind command) }
     ensures memory { room.new ≡ placed (row_reply (charger_side s) bytes.now command (charger_kind command)) room.old }
@@ -64,7 +57,7 @@ fn serve_read(s: Charger, command: u8, bytes: &[u8], room: &mut [u8]) -> Transac
 }
 
 // A write, by its command's row.
-fn serve_write(s: Charger, command: u8, word: u16) -> Transacted
+fn serve_write(s: Charger, command: u8, word: u16) -> Transacted<Charger>
     ensures { result ≡ outcome (write_answer (charger_kind command)) (cond (served (write_answer (charger_kind command))) (charger_written s command word) s) 0 }
 {
     if is_shown(command) {
@@ -78,7 +71,7 @@ fn serve_write(s: Charger, command: u8, word: u16) -> Transacted
 }
 
 // What the driver's bytes and mark are answered.
-pub fn transact(s: Charger, read: bool, bytes: &[u8], room: &mut [u8]) -> Transacted
+pub fn transact(s: Charger, read: bool, bytes: &[u8], room: &mut [u8]) -> Transacted<Charger>
     ensures result { result ≡ transact_of s read bytes.now (length room.old) }
     ensures memory { room.new ≡ reply_room s read bytes.now room.old }
 {
