@@ -19,9 +19,8 @@ use Rattle.capture_writer.specs.Writer.{capture_wrote, capture_answer, capture_g
 use Rattle.capture_laws.proofs.Walked.{step_answer}
 use Rattle.charger_state.specs.Charger as charger
 use Rattle.charger.specs.Transact as charger_bus
-use Rattle.charger_state.specs.declared.Sampled as charger_sampled
+use Rattle.charger_state.specs.declared.Charger.{Charger}
 use Rattle.charger_area.specs.Area as charger_area
-use Rattle.charger_area.specs.declared.Loaded as charger_loaded
 use Rattle.rooms.specs.Rooms.{wrote}
 use Rattle.clock.specs.Broadcast.{sample_of}
 use Rattle.commands.specs.Answers.{Side, side_answer, bare, request_answer, read_answer, write_answer}
@@ -35,9 +34,9 @@ use Rattle.names.specs.Names.{name_in, plain_wrote}
 use Rattle.key.specs.Key.{Parts, read_key, read_of, found_of}
 use Rattle.key_writer.specs.Writing.{key_wrote, refused}
 use Rattle.start.specs.SetUp.{set_up_of, set_up_refused}
-use Rattle.start.specs.declared.Started.{Started}
+use Rattle.pack.specs.declared.Answered.{Answered}
+use Rattle.pack.specs.declared.State.{State}
 use Rattle.clock.specs.declared.Sampled.{Sampled}
-use Rattle.area.specs.declared.Loaded.{Loaded}
 use Rattle.rooms.specs.declared.Wrote.{Wrote}
 use Rattle.capture.specs.declared.Opened.{Opened}
 use Rattle.pec.specs.Messages.{ends_in_pec}
@@ -54,15 +53,13 @@ use Rattle.gauge_laws.proofs.Minutes.{at, ten_exactly}
 use Rattle.thirteen.specs.Commands.{thirteen_kind}
 use Rattle.thirteen.specs.Transact as thirteen_bus
 use Rattle.thirteen_area.specs.Area as thirteen_area
-use Rattle.thirteen_area.specs.declared.Loaded as thirteen_loaded
 use Rattle.thirteen_laws.proofs.Rows.{cut_off_exactly}
 use Rattle.thirteen_laws.specs.Rows.{is_cut_off}
 use Rattle.thirteen_pack.specs.Sample as thirteen_sample
 use Rattle.thirteen_pack.specs.SetUp as thirteen_start
 use Rattle.thirteen_pack.specs.Sound as thirteen
 use Rattle.thirteen_pack.specs.declared.Thirteen.{Thirteen}
-use Rattle.thirteen_pack.specs.declared.ThirteenSampled as thirteen_sampled
-use Rattle.thirteen_pack.specs.declared.ThirteenStarted as thirteen_started
+use Rattle.thirteen_pack.specs.declared.ThirteenState.{ThirteenState}
 use Rattle.answers.specs.Conditions.{command_of, is_denied, side_conditions, is_none, overflows, edit_conditions, table_conditions}
 use Rattle.answers.specs.Lowest.{◌when◌, lowest, all_above, rising, first_holding}
 use Rattle.answers.specs.Promises.{SideLowest, TransactLowest, SetUpLowest, SampleLowest, LoadLowest, StoreLowest, ChargerTransactLowest, ChargerSampleLowest, ChargerLoadLowest, ChargerStoreLowest, ThirteenSetUpLowest, ThirteenTransactLowest, ThirteenSampleLowest, ThirteenLoadLowest, ThirteenStoreLowest, WriteKeyLowest, ReadKeyLowest, FindLowest, UnescapeLowest, BlockLowest, LocateLowest, WriteSheetLowest, EditLowest, OpenLowest, StepLowest, WriteCaptureLowest, ExchangeLowest, ComparisonLowest, ReportLowest, TableReportLowest}
@@ -93,7 +90,7 @@ answers f false x y = refl
 
 pub set_up_lowest : SetUpLowest
 unfolding set_up_of
-set_up_lowest u first = answers {A = Started} (λ r. r.answer) (set_up_refused u) _ _ ∙ one 11 (set_up_refused u)
+set_up_lowest u first = answers {A = Answered State} (λ r. r.answer) (set_up_refused u) _ _ ∙ one 11 (set_up_refused u)
 
 pub sample_lowest : SampleLowest
 unfolding sample_of rising all_above
@@ -105,33 +102,33 @@ sample_lowest s sample room =
 
 pub load_lowest : LoadLowest
 unfolding loaded_of
-load_lowest area = answers {A = Loaded} (λ r. r.answer) (is_area area) _ _ ∙ unless 1 (is_area area)
+load_lowest area = answers {A = Answered State} (λ r. r.answer) (is_area area) _ _ ∙ unless 1 (is_area area)
 
 pub store_lowest : StoreLowest
 store_lowest s room = unless 1 (storable s room)
 
 pub charger_sample_lowest : ChargerSampleLowest
 unfolding charger.sample_of
-charger_sample_lowest s sample = answers {A = charger_sampled.Sampled} (λ r. r.answer) (not (charger.sound_of s)) _ _ ∙ one 1 (not (charger.sound_of s))
+charger_sample_lowest s sample = answers {A = Answered Charger} (λ r. r.answer) (not (charger.sound_of s)) _ _ ∙ one 1 (not (charger.sound_of s))
 
 pub charger_load_lowest : ChargerLoadLowest
 unfolding charger_area.loaded_of
-charger_load_lowest area = answers {A = charger_loaded.Loaded} (λ r. r.answer) (charger_area.is_charger_area area) _ _ ∙ unless 1 (charger_area.is_charger_area area)
+charger_load_lowest area = answers {A = Answered Charger} (λ r. r.answer) (charger_area.is_charger_area area) _ _ ∙ unless 1 (charger_area.is_charger_area area)
 
 pub charger_store_lowest : ChargerStoreLowest
 charger_store_lowest room = unless 1 (eqb (length room) charger_area.charger_length)
 
 pub thirteen_set_up_lowest : ThirteenSetUpLowest
 unfolding thirteen_start.set_up_of
-thirteen_set_up_lowest u health first cells = answers {A = thirteen_started.ThirteenStarted} (λ r. r.answer) (set_up_refused u) _ _ ∙ one 11 (set_up_refused u)
+thirteen_set_up_lowest u health first cells = answers {A = Answered ThirteenState} (λ r. r.answer) (set_up_refused u) _ _ ∙ one 11 (set_up_refused u)
 
 pub thirteen_sample_lowest : ThirteenSampleLowest
 unfolding thirteen_sample.sample_of
-thirteen_sample_lowest s x cells = answers {A = thirteen_sampled.ThirteenSampled} (λ r. r.answer) (not (thirteen.sound_of s)) _ _ ∙ one 1 (not (thirteen.sound_of s))
+thirteen_sample_lowest s x cells = answers {A = Answered ThirteenState} (λ r. r.answer) (not (thirteen.sound_of s)) _ _ ∙ one 1 (not (thirteen.sound_of s))
 
 pub thirteen_load_lowest : ThirteenLoadLowest
 unfolding thirteen_area.loaded_of
-thirteen_load_lowest area = answers {A = thirteen_loaded.Loaded} (λ r. r.answer) (thirteen_area.is_thirteen_area area) _ _ ∙ unless 1 (thirteen_area.is_thirteen_area area)
+thirteen_load_lowest area = answers {A = Answered ThirteenState} (λ r. r.answer) (thirteen_area.is_thirteen_area area) _ _ ∙ unless 1 (thirteen_area.is_thirteen_area area)
 
 pub thirteen_store_lowest : ThirteenStoreLowest
 thirteen_store_lowest s room = unless 1 (thirteen_area.storable s room)

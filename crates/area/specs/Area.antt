@@ -26,7 +26,7 @@ use Rattle.std.specs.Prelude.{ℕ, ◌+◌, Bool, cond, ◌&&◌, List, ◌++◌
 use Rattle.rooms.specs.Rooms.{between}
 use Rattle.numbers.specs.Numbers.{number_bytes, number_at, bytes_taken}
 use Rattle.area_parts.specs.Parts.{settings_widths, host_widths, latest_widths, tank_widths, timers_widths, recent_widths, settings_bytes, host_bytes, latest_bytes, tank_bytes, timers_bytes, recent_bytes, settings_in, host_in, latest_in, tank_in, timers_in, recent_in, is_settings, is_host, is_tank}
-use Rattle.area.specs.declared.Loaded.{Loaded}
+use Rattle.pack.specs.declared.Answered.{Answered}
 use Rattle.start.specs.SetUp.{zero_state}
 use Rattle.pack.specs.declared.State.{State}
 
@@ -94,11 +94,11 @@ abbrev pub no_state : ℕ
 no_state = 1
 
 -- a state, and that it was loaded
-abbrev pub loaded : State → Loaded
+abbrev pub loaded : State → Answered State
 loaded s = record { answer = 0; state = s }
 
 -- 0 and the state of an area; of other bytes no state, and the all-zero one
-unfoldable pub loaded_of : List ℕ → Loaded
+unfoldable pub loaded_of : List ℕ → Answered State
 loaded_of area = cond (is_area area) (loaded (state_in area)) (record { answer = no_state; state = zero_state })
 
 -- a state goes into room for an area, if its count of kept seconds is a byte

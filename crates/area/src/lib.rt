@@ -10,7 +10,7 @@ use area_parts::{
     put_settings, put_tank, put_timers, recent_in, settings_in, tank_in, timers_in,
 };
 use numbers::{byte_at, put_number};
-use pack::{Pack, State};
+use pack::{Answered, Pack, State};
 
 // Where each part starts, and the bytes that an area has.
 const SETTINGS: usize = 1;
@@ -26,13 +26,6 @@ pub const TIMERS: usize = TANK + 30;
 pub const RECENT: usize = TIMERS + 12;
 
 pub const LENGTH: usize = RECENT + 247;
-
-// What an area holds.
-#[derive(Clone, Copy)]
-pub struct Loaded {
-    pub answer: u8,
-    pub state: State,
-}
 
 // The whole area.
 fn put_state(area: &mut [u8], s: State)
@@ -95,19 +88,19 @@ fn state_in(area: &[u8]) -> State
 }
 
 // The state of an area: answer 0; or 1 and the all-zero state.
-pub fn load(area: &[u8]) -> Loaded
+pub fn load(area: &[u8]) -> Answered<State>
     ensures is { result ≡ loaded_of area.now }
     ensures back { result.answer ≡ 0 → area_of result.state ≡ area.now }
 {
     if is_area(area) {
         let state = state_in(area);
-        return Loaded {
+        return Answered {
             answer: 0,
             state: state,
         };
     }
     let none = start::zero();
-    Loaded {
+    Answered {
         answer: 1,
         state: none,
     }

@@ -1,7 +1,7 @@
 -- Document 01, Answer numbers and Transactions: what every byte string is answered, the reply, and the state left.
 -- Assumes nothing.
 use Rattle.std.specs.Prelude.{ℕ, Bool, false, cond, List, length}
-use Rattle.bus.specs.declared.Transacted.{Transacted}
+use Rattle.commands.specs.declared.Transacted.{Transacted}
 use Rattle.commands.specs.Answers.{Side, code_after, read_answer, side_answer, served, side_reply, row_reply}
 use Rattle.commands.specs.declared.Kind.{Kind}
 use Rattle.commands.specs.Commands.{kind_of}
@@ -45,7 +45,7 @@ pack_after p (Write command word checked) answer = cond (served answer) (pack_wr
 -- ---- the entry
 
 -- the answer, the state with the error code that it leaves, and the number of reply bytes (RULES 2.6)
-abbrev pub outcome : State → ℕ → Pack → ℕ → Transacted
+abbrev pub outcome : State → ℕ → Pack → ℕ → Transacted State
 outcome s answer pack length =
     record { answer = answer; state = record { error = code_after answer s.error; pack = pack }; length = length }
 
@@ -63,17 +63,17 @@ transact_reply s service factory read bytes room =
     side_reply (pack_side s service factory) bytes (asked read bytes) (transact_answer s service factory read bytes room)
 
 -- what a request is given by its answer: answer, state and number of reply bytes
-abbrev pub request_given : State → List ℕ → List ℕ → List ℕ → Request → ℕ → Transacted
+abbrev pub request_given : State → List ℕ → List ℕ → List ℕ → Request → ℕ → Transacted State
 request_given s service factory bytes request answer =
     outcome s answer (pack_after s.pack request answer) (length (side_reply (pack_side s service factory) bytes request answer))
 
 -- what a read is given where its answer is that of its command's row
-abbrev pub row_given : State → List ℕ → List ℕ → List ℕ → ℕ → Kind → Transacted
+abbrev pub row_given : State → List ℕ → List ℕ → List ℕ → ℕ → Kind → Transacted State
 row_given s service factory bytes command kind =
     outcome s (read_answer (pack_side s service factory) command kind) s.pack (length (row_reply (pack_side s service factory) bytes command kind))
 
 -- what the driver's bytes and mark are given (RULES 2)
-unfoldable pub transact_of : State → List ℕ → List ℕ → Bool → List ℕ → ℕ → Transacted
+unfoldable pub transact_of : State → List ℕ → List ℕ → Bool → List ℕ → ℕ → Transacted State
 transact_of s service factory read bytes room =
     request_given s service factory bytes (asked read bytes) (transact_answer s service factory read bytes room)
 

@@ -12,20 +12,12 @@ ghost use Rattle.pack.specs.Sound.{sound_of};
 ghost use Rattle.rooms.specs.Rooms.{placed};
 ghost use Rattle.written.specs.Written.{pack_written};
 
-use commands::Kind;
+use commands::{Kind, Transacted};
 use frame::Request;
 use pack::{Pack, State};
 
-// What a transaction gives back: its answer, the state left, the number of reply bytes.
-#[derive(Clone, Copy)]
-pub struct Transacted {
-    pub answer: u8,
-    pub state: State,
-    pub length: usize,
-}
-
 // The answer, the state with the error code that it leaves, and the number of reply bytes.
-fn answered(s: State, answer: u8, pack: Pack, length: usize) -> Transacted
+fn answered(s: State, answer: u8, pack: Pack, length: usize) -> Transacted<State>
     ensures { result ≡ outcome s answer pack length }
 {
     let error = commands::code_after(answer, s.error);
@@ -41,7 +33,7 @@ fn answered(s: State, answer: u8, pack: Pack, length: usize) -> Transacted
 }
 
 // A call that changes nothing but the error code.
-fn unchanged(s: State, answer: u8, length: usize) -> Transacted
+fn unchanged(s: State, answer: u8, length: usize) -> Transacted<State>
     ensures { result ≡ outcome s answer s.pack length }
 {
     let pack = s.pack;
@@ -49,7 +41,7 @@ fn unchanged(s: State, answer: u8, length: usize) -> Transacted
 }
 
 // A word read, with the answer that comes with the word.
-fn serve_word(s: State, command: u8, bytes: &[u8], room: &mut [u8]) -> Transacted
+fn serve_word(s: State, command: u8, bytes: &[u8], room: &mut [u8]) -> Transacted<State>
     requires { (sound_of s ≡ true) × (34 ≤ length room.old) }
     ensures result { result ≡ outcome s (word_answer s command) s.pack (length (reply_of bytes.now (word_body (word_of s command)))) }
     ensures memory { room.new ≡ placed (reply_of bytes.now (word_body (word_of s command))) room.old }
@@ -67,7 +59,7 @@ fn serve_block<'a>(
     command: u8,
     bytes: &[u8],
     room: &mut [u8],
-) -> Transacted
+) -> Transacted<State>
     requires { 34 ≤ length room.old }
     ensures result { result ≡ row_given s service.now factory.now bytes.now command Block }
     ensures memory { room.new ≡ placed (row_reply (pack_side s service.now factory.now) bytes.now command Block) room.old }
@@ -89,7 +81,7 @@ fn serve_read<'a>(
     command: u8,
     bytes: &[u8],
     room: &mut [u8],
-) -> Transacted
+) -> Transacted<State>
     requires { (sound_of s ≡ true) × (34 ≤ length room.old) }
     ensures result { result ≡ row_given s service.now factory.now bytes.now command (kind_of command) }
     ensures memory { room.new ≡ placed (row_reply (pack_side s service.now factory.now) bytes.now command (kind_of command)) room.old }
@@ -105,7 +97,7 @@ fn serve_read<'a>(
 }
 
 // A write, by its command's row.
-fn serve_write(s: State, command: u8, word: u16) -> Transacted
+fn serve_write(s: State, command: u8, word: u16) -> Transacted<State>
     ensures { result ≡ outcome s (write_answer (kind_of command)) (cond (served (write_answer (kind_of command))) (pack_written s.pack command word) s.pack) 0 }
 {
     let refusal = commands::write_answer(commands::row(command));
@@ -124,7 +116,7 @@ pub fn transact<'a>(
     read: bool,
     bytes: &[u8],
     room: &mut [u8],
-) -> Transacted
+) -> Transacted<State>
     ensures result { result ≡ transact_of s service.now factory.now read bytes.now (length room.old) }
     ensures memory { room.new ≡ reply_room s service.now factory.now read bytes.now room.old }
 {

@@ -7,7 +7,7 @@ use mathlib.Core.Path.{◌≡◌, refl, sym, ap, subst}
 use native.Mathlib.Omega.{arith}
 use Rattle.bus.proofs.Answers.{unsound, refused-outcome}
 use Rattle.bus.specs.Transact.{pack_after, asked, transact_of}
-use Rattle.bus.specs.declared.Transacted.{Transacted}
+use Rattle.commands.specs.declared.Transacted.{Transacted}
 use Rattle.bus_laws.proofs.Served.{idle_keeps}
 use Rattle.bus_laws.proofs.Soundness.{sound_stays}
 use Rattle.bus_laws.specs.Calls.{Call, result, answer, SameRegisters}
@@ -25,7 +25,7 @@ use Rattle.pack.specs.declared.State.{State}
 unsound_stays : (s : State) (c : Call) → sound_of s ≡ false → (result s c).state ≡ s
 unfolding code_after
 unsound_stays s c e =
-    ap (λ (r : Transacted). r.state)
+    ap (λ (r : Transacted State). r.state)
     (refused-outcome s c.service c.factory c.read c.bytes c.room 1 (unsound s c.service c.factory c.read c.bytes c.room e) refl)
 
 -- of two sound states with one pack no register differs but the error bits

@@ -8,7 +8,7 @@ use borrow.Author.Tests.{ne_eqb, le-leb, leb-true}
 use lib.Dec.{leb, eqb}
 use Rattle.bus.proofs.Answers.{by-outcome}
 use Rattle.bus.specs.Transact.{pack_side, pack_after, transact_of}
-use Rattle.bus.specs.declared.Transacted.{Transacted}
+use Rattle.commands.specs.declared.Transacted.{Transacted}
 use Rattle.bus_laws.proofs.Exchanges.{served_reply}
 use Rattle.bus_laws.proofs.Served.{past_two, read-answer, writes_asked, write-answer}
 use Rattle.bus_laws.specs.Calls.{answer, kept_word}
@@ -112,7 +112,7 @@ written_read s w t r command word writes taken sound pack-left reads room =
     pack-kept : t.pack ≡ pack_written s.pack command word
     pack-kept =
         pack-left
-        ∙ ap (λ (o : Transacted). o.state.pack)
+        ∙ ap (λ (o : Transacted State). o.state.pack)
         (by-outcome s w.service w.factory w.read w.bytes w.room (Write command word writes.1.0) two.0 two.1 (writes_asked w command word writes))
         ∙ ap (λ (b : Bool). cond b (pack_written s.pack command word) s.pack) served-row
 

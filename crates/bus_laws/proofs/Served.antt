@@ -6,7 +6,7 @@ use mathlib.Core.Logic.{inl, inr}
 use mathlib.Core.Path.{◌≡◌, refl, sym, ap, ◌∙◌}
 use Rattle.bus.proofs.Answers.{refused-outcome, refusal}
 use Rattle.bus.specs.Transact.{pack_side, pack_after, asked, transact_answer, transact_of}
-use Rattle.bus.specs.declared.Transacted.{Transacted}
+use Rattle.commands.specs.declared.Transacted.{Transacted}
 use Rattle.bus_laws.specs.Calls.{Call, answer, visit, Reads, Writes}
 use Rattle.bus_laws.specs.Promises.{RefusedCall, RefusedRoom, CodeLeft, IdleKeeps}
 use Rattle.commands.specs.Answers.{read_answer, write_answer, served}
@@ -59,4 +59,4 @@ read_keeps p c n h =
 pub idle_keeps : IdleKeeps
 unfolding transact_of
 idle_keeps s c (inl h) = read_keeps s.pack c (answer s c) h
-idle_keeps s c (inr v) = ap (λ (r : Transacted). r.state.pack) (refused s c v)
+idle_keeps s c (inr v) = ap (λ (r : Transacted State). r.state.pack) (refused s c v)

@@ -2,7 +2,7 @@
 -- Assumes nothing.
 use Rattle.std.specs.Prelude.{ℕ, ◌+◌, ◌/◌, ◌<◌, Bool, true, false, cond, List, ◌++◌, ◌⊎◌, ◌≡◌, eqb}
 use Rattle.bus.specs.Transact.{pack_side, transact_answer, transact_reply, transact_of}
-use Rattle.bus.specs.declared.Transacted.{Transacted}
+use Rattle.commands.specs.declared.Transacted.{Transacted}
 use Rattle.commands.specs.Answers.{served}
 use Rattle.commands_laws.specs.Visits.{Visit}
 use Rattle.frame.specs.Transactions.{read_bytes, reply_of, word_body}
@@ -24,7 +24,7 @@ pub record Call : Type 0 where
   pub bytes : List ℕ
   pub room : ℕ
 
-abbrev pub result : State → Call → Transacted
+abbrev pub result : State → Call → Transacted State
 result s c = transact_of s c.service c.factory c.read c.bytes c.room
 
 abbrev pub answer : State → Call → ℕ

@@ -9,10 +9,10 @@ use borrow.Author.Tests.{eq-eqb, ne_eqb, le-leb}
 use lib.ListN.{length}
 use Rattle.area.specs.Area.{area_length, area_of, state_in, is_area, loaded_of}
 use Rattle.area.specs.Area as area
-use Rattle.area.specs.declared.Loaded.{Loaded}
+use Rattle.pack.specs.declared.Answered.{Answered}
 use Rattle.bus.specs.Transact.{pack_side, asked, transact_answer, transact_of}
 use Rattle.bus.specs.Transact as bus
-use Rattle.bus.specs.declared.Transacted.{Transacted}
+use Rattle.commands.specs.declared.Transacted.{Transacted}
 use Rattle.commands.proofs.Answers.{reply_most}
 use Rattle.broadcasts.proofs.Sending.{at_most_20}
 use Rattle.clock.proofs.Outcome.{outcome}
@@ -26,7 +26,6 @@ use Rattle.pack.specs.Kept.{latest_of}
 use Rattle.pack.specs.Sound.{sound_of}
 use Rattle.pack.specs.declared.Sample.{Sample}
 use Rattle.start.specs.declared.Setup.{Setup}
-use Rattle.start.specs.declared.Started.{Started}
 use Rattle.pack.specs.declared.State.{State}
 use Rattle.seconds.proofs.After.{after_sound}
 use Rattle.recent.proofs.Soundness.{recent_facts}
@@ -37,19 +36,19 @@ use Rattle.packed.specs.Packed.{packed}
 
 -- ---- loaded and stored
 
-pub no_area : (a : List ℕ) {l : Loaded} → l ≡ loaded_of a → (l.answer ≡ 0 → ⊥) → is_area a ≡ false
+pub no_area : (a : List ℕ) {l : Answered State} → l ≡ loaded_of a → (l.answer ≡ 0 → ⊥) → is_area a ≡ false
 unfolding loaded_of
 no_area a e h =
-    chosen (λ (m : Loaded). (m.answer ≡ 0 → ⊥) → is_area a ≡ false) (is_area a) (λ f k. absurd (k refl)) (λ f k. f)
-    (λ z. h (ap (λ (m : Loaded). m.answer) e ∙ z))
+    chosen (λ (m : Answered State). (m.answer ≡ 0 → ⊥) → is_area a ≡ false) (is_area a) (λ f k. absurd (k refl)) (λ f k. f)
+    (λ z. h (ap (λ (m : Answered State). m.answer) e ∙ z))
 
-pub an_area : (a : List ℕ) {l : Loaded} → l ≡ loaded_of a → l.answer ≡ 0 → (is_area a ≡ true) × (l.state ≡ state_in a)
+pub an_area : (a : List ℕ) {l : Answered State} → l ≡ loaded_of a → l.answer ≡ 0 → (is_area a ≡ true) × (l.state ≡ state_in a)
 unfolding loaded_of
 an_area a e z =
     let t =
-    chosen (λ (m : Loaded). m.answer ≡ 0 → (is_area a ≡ true) × (m.state ≡ state_in a)) (is_area a) (λ f k. (f, refl))
-    (λ f k. absurd (omega (arith, k))) (sym (ap (λ (m : Loaded). m.answer) e) ∙ z) in
-    (t.0, ap (λ (m : Loaded). m.state) e ∙ t.1)
+    chosen (λ (m : Answered State). m.answer ≡ 0 → (is_area a ≡ true) × (m.state ≡ state_in a)) (is_area a) (λ f k. (f, refl))
+    (λ f k. absurd (omega (arith, k))) (sym (ap (λ (m : Answered State). m.answer) e) ∙ z) in
+    (t.0, ap (λ (m : Answered State). m.state) e ∙ t.1)
 
 -- a state of at most 60 seconds goes into an area
 pub stored : (s : State) (room : List ℕ) → length room ≡ area_length → s.pack.recent.count ≤ 60 → area.stored_room s room ≡ area_of s
@@ -58,22 +57,22 @@ stored s room n most = rw (eq-eqb _ _ n, le-leb s.pack.recent.count 255 (omega (
 
 -- ---- set-up
 
-pub start_refused : (a : List ℕ) {t u : Started} {r : ℕ} → length a ≡ area_length → t ≡ u → (t.answer ≡ 0 → ⊥) → r ≡ packed t.answer 0
+pub start_refused : (a : List ℕ) {t u : Answered State} {r : ℕ} → length a ≡ area_length → t ≡ u → (t.answer ≡ 0 → ⊥) → r ≡ packed t.answer 0
     → (r ≡ start_number a u) × (a ≡ start_area a u)
 start_refused a {t} {u} {r} size e h er =
-    let ea : t.answer ≡ u.answer = ap (λ (x : Started). x.answer) e in
+    let ea : t.answer ≡ u.answer = ap (λ (x : Answered State). x.answer) e in
     let same : r ≡ u.answer = omega (arith, er, ea) in
     (rw (eq-eqb _ _ size) same, rw (eq-eqb _ _ size, ne_eqb u.answer 0 (λ z. h (ea ∙ z))))
 
 start_most : (x : Setup) (y : Sample) → (set_up_of x y).state.pack.recent.count ≤ 60
 unfolding set_up_of pack_of
-start_most x y = chosen (λ (t : Started). t.state.pack.recent.count ≤ 60) (set_up_refused x) (λ e. omega arith) (λ e. omega arith)
+start_most x y = chosen (λ (t : Answered State). t.state.pack.recent.count ≤ 60) (set_up_refused x) (λ e. omega arith) (λ e. omega arith)
 
-pub start_served : (a : List ℕ) (x : Setup) (y : Sample) {t : Started} {a' : List ℕ} → length a ≡ area_length → t ≡ set_up_of x y → t.answer ≡ 0
+pub start_served : (a : List ℕ) (x : Setup) (y : Sample) {t : Answered State} {a' : List ℕ} → length a ≡ area_length → t ≡ set_up_of x y → t.answer ≡ 0
     → a' ≡ area.stored_room t.state a → (0 ≡ start_number a (set_up_of x y)) × (a' ≡ start_area a (set_up_of x y))
 start_served a x y size e z ea =
-    let z' : (set_up_of x y).answer ≡ 0 = sym (ap (λ (s : Started). s.answer) e) ∙ z in
-    let put = ea ∙ ap (λ (s : Started). area.stored_room s.state a) e ∙ stored (set_up_of x y).state a size (start_most x y) in
+    let z' : (set_up_of x y).answer ≡ 0 = sym (ap (λ (s : Answered State). s.answer) e) ∙ z in
+    let put = ea ∙ ap (λ (s : Answered State). area.stored_room s.state a) e ∙ stored (set_up_of x y).state a size (start_most x y) in
     (rw (eq-eqb _ _ size) (sym z'), rw (eq-eqb _ _ size, eq-eqb _ _ z') put)
 
 -- ---- samples
@@ -93,7 +92,7 @@ sample_count s x n =
 pub sample_most : (s : State) (x : Sample) (n : ℕ) → (sample_of s x n).length ≤ 20
 sample_most s x n = outcome (λ r. r.length ≤ 20) s x n (omega arith) (omega arith) (λ sound. at_most_20 (moved_of s.pack x))
 
-module _ (a : List ℕ) (x : Sample) (room : List ℕ) {l : Loaded} (loaded : l ≡ loaded_of a) where
+module _ (a : List ℕ) (x : Sample) (room : List ℕ) {l : Answered State} (loaded : l ≡ loaded_of a) where
   pub sample-none : (l.answer ≡ 0 → ⊥) → (1 ≡ sample_number a x room) × ((a ≡ sample_area a x room) × (room ≡ sample_room a x room))
   unfolding sample_number sample_area sample_room
   sample-none h = let none = no_area a loaded h in (rw none, (rw none, rw none))
@@ -121,14 +120,14 @@ module _ (s : State) (service factory : List ℕ) (read : Bool) (bytes : List �
       reply_most (pack_side s service factory) 33 (omega arith) (λ command. omega (arith, block-short service factory command)) bytes (asked read bytes)
       (transact_answer s service factory read bytes room)
 
-module _ (a service factory : List ℕ) (read : Bool) (bytes room : List ℕ) {l : Loaded} (loaded : l ≡ loaded_of a) where
+module _ (a service factory : List ℕ) (read : Bool) (bytes room : List ℕ) {l : Answered State} (loaded : l ≡ loaded_of a) where
   pub transact-none : (l.answer ≡ 0 → ⊥)
       → (1 ≡ transact_number a service factory read bytes room)
       × ((a ≡ transact_area a service factory read bytes room) × (room ≡ transact_room a service factory read bytes room))
   unfolding transact_number transact_area transact_room
   transact-none h = let none = no_area a loaded h in (rw none, (rw none, rw none))
 
-  pub transact-done : {out : Transacted} {r : ℕ} {a' room' : List ℕ} → l.answer ≡ 0
+  pub transact-done : {out : Transacted State} {r : ℕ} {a' room' : List ℕ} → l.answer ≡ 0
       → out ≡ transact_of l.state service factory read bytes (length room)
       → room' ≡ bus.reply_room l.state service factory read bytes room
       → a' ≡ area_after a out.answer out.state
@@ -139,9 +138,9 @@ module _ (a service factory : List ℕ) (read : Bool) (bytes room : List ℕ) {l
   transact-done {out} z eo em ea er =
       let t = an_area a loaded z in
       let o = eo ∙ ap (λ (s : State). transact_of s service factory read bytes (length room)) t.1 in (
-        rw t.0 (er ∙ ap (λ (q : Transacted). packed q.answer q.length) o),
+        rw t.0 (er ∙ ap (λ (q : Transacted State). packed q.answer q.length) o),
         (
-          rw t.0 (ea ∙ ap (λ (q : Transacted). area_after a q.answer q.state) o),
+          rw t.0 (ea ∙ ap (λ (q : Transacted State). area_after a q.answer q.state) o),
           rw t.0 (em ∙ ap (λ (s : State). bus.reply_room s service factory read bytes room) t.1),
         ),
       )

@@ -14,7 +14,7 @@ use Rattle.area.proofs.Whole.{lent}
 use Rattle.area.specs.Area.{settings_at, host_at, latest_at, timers_at, area_length, area_of}
 use Rattle.area_parts.specs.Parts.{settings_widths, host_widths, timers_widths, host_bytes, timers_bytes}
 use Rattle.bus.specs.Transact.{pack_side, pack_after, asked, transact_answer, transact_of}
-use Rattle.bus.specs.declared.Transacted.{Transacted}
+use Rattle.commands.specs.declared.Transacted.{Transacted}
 use Rattle.commands.proofs.Answers.{none_served}
 use Rattle.commands.specs.Answers.{Side, code_after, side_answer}
 use Rattle.frame.proofs.Marks.{by_read}
@@ -142,6 +142,6 @@ module _ (s : State) (service factory bytes : List ℕ) (room : ℕ) where
       (λ f. rw (past_three n f, pack-stays read e) (error_enough s (code_after n s.error))))
 
   -- so they leave what the call must, in any area that holds the state
-  pub kept : (read : Bool) {a : List ℕ} {out : Transacted} → area_of s ≡ a → out ≡ transact_of s service factory read bytes room
+  pub kept : (read : Bool) {a : List ℕ} {out : Transacted State} → area_of s ≡ a → out ≡ transact_of s service factory read bytes room
       → transact_stored a read out.answer out.state ≡ area_after a out.answer out.state
   kept read ea eo = rw (eo, ← ea) (enough read)

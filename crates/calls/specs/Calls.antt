@@ -3,23 +3,23 @@
 use Rattle.std.specs.Prelude.{Bool, cond, ◌&&◌, ◌||◌, List, ℕ, eqb, length}
 use Rattle.area.specs.Area.{area_length, area_of, state_in, is_area, no_state}
 use Rattle.bus.specs.Transact as bus
-use Rattle.bus.specs.declared.Transacted.{Transacted}
+use Rattle.commands.specs.declared.Transacted.{Transacted}
 use Rattle.clock.specs.Broadcast as clock
 use Rattle.clock.specs.declared.Sampled.{Sampled}
 use Rattle.pack.specs.Sound.{sound_of}
 use Rattle.pack.specs.declared.Sample.{Sample}
-use Rattle.start.specs.declared.Started.{Started}
+use Rattle.pack.specs.declared.Answered.{Answered}
 use Rattle.pack.specs.declared.State.{State}
 use Rattle.packed.specs.Packed.{packed}
 
 -- ---- set-up
 
 -- no state goes into an area of another size; else set-up's own answer (RULES 1.1, 1.11)
-abbrev pub start_number : List ℕ → Started → ℕ
+abbrev pub start_number : List ℕ → Answered State → ℕ
 start_number area started = cond (eqb (length area) area_length) started.answer no_state
 
 -- a served set-up leaves its state; a refused one the area as it was (RULES 1.11)
-abbrev pub start_area : List ℕ → Started → List ℕ
+abbrev pub start_area : List ℕ → Answered State → List ℕ
 start_area area started = cond (eqb (length area) area_length && eqb started.answer 0) (area_of started.state) area
 
 -- ---- soundness
@@ -53,7 +53,7 @@ unfoldable pub sample_room : List ℕ → Sample → List ℕ → List ℕ
 sample_room area sample room = cond (is_area area) (clock.broadcast_room (state_in area) sample room) room
 
 -- a transaction on the area's state
-abbrev pub transacted : List ℕ → List ℕ → List ℕ → Bool → List ℕ → List ℕ → Transacted
+abbrev pub transacted : List ℕ → List ℕ → List ℕ → Bool → List ℕ → List ℕ → Transacted State
 transacted area service factory read bytes room = bus.transact_of (state_in area) service factory read bytes (length room)
 
 unfoldable pub transact_number : List ℕ → List ℕ → List ℕ → Bool → List ℕ → List ℕ → ℕ

@@ -5,7 +5,7 @@ use Rattle.charger_state.specs.Charger.{sound_of, word_of}
 use Rattle.charger.specs.Commands.{charger_kind}
 use Rattle.charger_written.specs.Written.{charger_written}
 use Rattle.charger_state.specs.declared.Charger.{Charger}
-use Rattle.charger.specs.declared.Transacted.{Transacted}
+use Rattle.commands.specs.declared.Transacted.{Transacted}
 use Rattle.commands.specs.Answers.{Side, read_answer, side_answer, served, side_reply, row_reply}
 use Rattle.commands.specs.declared.Kind.{Kind}
 use Rattle.device.specs.declared.Written.{Written}
@@ -42,7 +42,7 @@ left_by s None = s
 left_by s (Some write) = charger_written s write.command write.word
 
 -- answer, state and number of reply bytes; the charger keeps no error code (RULES 14.1)
-abbrev pub outcome : ℕ → Charger → ℕ → Transacted
+abbrev pub outcome : ℕ → Charger → ℕ → Transacted Charger
 outcome answer state length = record { answer = answer; state = state; length = length }
 
 -- the request that the driver's bytes and mark are, at the write byte 0x12 (RULES 14.1)
@@ -58,15 +58,15 @@ unfoldable pub transact_reply : Charger → Bool → List ℕ → ℕ → List �
 transact_reply s read bytes room = side_reply (charger_side s) bytes (asked read bytes) (transact_answer s read bytes room)
 
 -- what a request is given by its answer
-abbrev pub request_given : Charger → List ℕ → Request → ℕ → Transacted
+abbrev pub request_given : Charger → List ℕ → Request → ℕ → Transacted Charger
 request_given s bytes request answer = outcome answer (charger_after s request answer) (length (side_reply (charger_side s) bytes request answer))
 
 -- what a read is given where its answer is that of its command's row
-abbrev pub row_given : Charger → List ℕ → ℕ → Kind → Transacted
+abbrev pub row_given : Charger → List ℕ → ℕ → Kind → Transacted Charger
 row_given s bytes command kind = outcome (read_answer (charger_side s) command kind) s (length (row_reply (charger_side s) bytes command kind))
 
 -- what the driver's bytes and mark are given (RULES 2)
-unfoldable pub transact_of : Charger → Bool → List ℕ → ℕ → Transacted
+unfoldable pub transact_of : Charger → Bool → List ℕ → ℕ → Transacted Charger
 transact_of s read bytes room = request_given s bytes (asked read bytes) (transact_answer s read bytes room)
 
 -- the lent reply room: the reply's bytes at the front, the rest stays (RULES 2.3, 2.5)

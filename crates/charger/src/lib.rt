@@ -7,17 +7,9 @@ ghost use Rattle.charger.specs.Delivered.{message_at, message_place};
 ghost use Rattle.charger.specs.Transact.{charger_side, left_by, transact_of, reply_room};
 
 use charger_state::Charger;
-use commands::Kind;
+use commands::{Kind, Transacted};
 use device::{Device, Replied, Written};
 use minutes::Shown;
-
-// What a transaction gives back: its answer, the state left, the number of reply bytes.
-#[derive(Clone, Copy)]
-pub struct Transacted {
-    pub answer: u8,
-    pub state: Charger,
-    pub length: usize,
-}
 
 // ---- transactions
 
@@ -101,7 +93,7 @@ fn left(s: Charger, write: Option<Written>) -> Charger
 }
 
 // What the driver's bytes and mark are answered.
-pub fn transact(s: Charger, read: bool, bytes: &[u8], room: &mut [u8]) -> Transacted
+pub fn transact(s: Charger, read: bool, bytes: &[u8], room: &mut [u8]) -> Transacted<Charger>
     ensures result { result ≡ transact_of s read bytes.now (length room.old) }
     ensures memory { room.new ≡ reply_room s read bytes.now room.old }
 {

@@ -15,7 +15,7 @@ use Rattle.area_parts.specs.Parts.{latest_widths, latest_bytes, latest_in}
 use Rattle.charger_state.specs.Charger.{power_on}
 use Rattle.charger_state.specs.declared.Asked.{Asked}
 use Rattle.charger_state.specs.declared.Charger.{Charger}
-use Rattle.charger_area.specs.declared.Loaded.{Loaded}
+use Rattle.pack.specs.declared.Answered.{Answered}
 use Rattle.numbers.specs.Numbers.{number_bytes, numbers_bytes, number_at, numbers_at, bytes_taken, flag_of, flagged, flags}
 use Rattle.rooms.specs.Rooms.{between}
 use Rattle.start.specs.SetUp.{zero_latest}
@@ -97,11 +97,11 @@ abbrev pub zero_charger : Charger
 zero_charger = power_on 0 zero_latest
 
 -- a state, and that it was loaded (RULES 14.12)
-abbrev pub loaded : Charger → Loaded
+abbrev pub loaded : Charger → Answered Charger
 loaded s = record { answer = 0; state = s }
 
 -- 0 and the state of an area; of other bytes 1, and the all-zero state (RULES 14.12)
-unfoldable pub loaded_of : List ℕ → Loaded
+unfoldable pub loaded_of : List ℕ → Answered Charger
 loaded_of area = cond (is_charger_area area) (loaded (charger_in area)) (record { answer = 1; state = zero_charger })
 
 -- 0 where room is one for an area, else 1 (RULES 14.12)

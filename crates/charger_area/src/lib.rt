@@ -9,7 +9,7 @@ ghost use Rattle.charger_area.specs.Laws.{ChargerFits};
 use area_parts::{flag, latest_in, put_latest};
 use charger_state::{Asked, Charger};
 use numbers::{byte_at, long_at, put_number, word_at};
-use pack::Latest;
+use pack::{Answered, Latest};
 
 // Where each part behind the first starts, and the bytes that an area has.
 const VOLTAGE: usize = 4;
@@ -21,13 +21,6 @@ const COUNT: usize = INHIBITED + 1;
 const LATEST: usize = COUNT + 4;
 
 pub const LENGTH: usize = LATEST + 10;
-
-// What an area holds.
-#[derive(Clone, Copy)]
-pub struct Loaded {
-    pub answer: u8,
-    pub state: Charger,
-}
 
 // ---- a request
 
@@ -135,19 +128,19 @@ fn zero() -> Charger
 }
 
 // The state of an area: answer 0; or 1 and the all-zero state.
-pub fn load(area: &[u8]) -> Loaded
+pub fn load(area: &[u8]) -> Answered<Charger>
     ensures is { result ≡ loaded_of area.now }
     ensures back { result.answer ≡ 0 → charger_area_of result.state ≡ area.now }
 {
     if is_area(area) {
         let state = state_in(area);
-        return Loaded {
+        return Answered {
             answer: 0,
             state: state,
         };
     }
     let none = zero();
-    Loaded {
+    Answered {
         answer: 1,
         state: none,
     }

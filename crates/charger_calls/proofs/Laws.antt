@@ -11,7 +11,7 @@ use Rattle.charger.proofs.Answers.{read_stays}
 use Rattle.charger_state.specs.Charger.{sound_of, sample_of}
 use Rattle.charger.specs.Transact.{charger_side, charger_after, asked, transact_answer, transact_of}
 use Rattle.charger_state.specs.declared.Charger.{Charger}
-use Rattle.charger_state.specs.declared.Sampled.{Sampled}
+use Rattle.pack.specs.declared.Answered.{Answered}
 use Rattle.charger_area.proofs.Whole.{held}
 use Rattle.charger_area.specs.Area.{charger_area_of, charger_in}
 use Rattle.charger_calls.specs.Calls.{area_after, sample_area, transact_area}
@@ -26,7 +26,7 @@ pub sample_holds : SampleHolds
 unfolding sample_area sample_of
 sample_holds a x b is =
     rw is
-    (chosen (λ (r : Sampled). area_after a (eqb r.answer 0) r.state ≡ charger_area_of r.state) (not (sound_of (charger_in a))) (λ e. sym (held a b is)) (λ e. refl))
+    (chosen (λ (r : Answered Charger). area_after a (eqb r.answer 0) r.state ≡ charger_area_of r.state) (not (sound_of (charger_in a))) (λ e. sym (held a b is)) (λ e. refl))
 
 -- a write that isn't answered 0 changes nothing
 write_stays : (d : Side) (s : Charger) (q : Request) (room : ℕ) → (side_answer d q room ≡ 0 → ⊥) → charger_after s q (side_answer d q room) ≡ s

@@ -4,8 +4,8 @@ use Rattle.std.specs.Prelude.{Bool, cond, not, ◌&&◌, List, ℕ, eqb, length}
 use Rattle.charger_state.specs.Charger.{set_up_of, sound_of, current_of, sample_of}
 use Rattle.charger.specs.Transact.{transact_of, reply_room}
 use Rattle.charger_state.specs.declared.Charger.{Charger}
-use Rattle.charger_state.specs.declared.Sampled.{Sampled}
-use Rattle.charger.specs.declared.Transacted.{Transacted}
+use Rattle.pack.specs.declared.Answered.{Answered}
+use Rattle.commands.specs.declared.Transacted.{Transacted}
 use Rattle.charger_area.specs.Area.{charger_area_of, charger_in, is_charger_area, stored_of, stored_room}
 use Rattle.pack.specs.declared.Sample.{Sample}
 use Rattle.packed.specs.Packed.{packed}
@@ -37,7 +37,7 @@ abbrev pub area_after : List ℕ → Bool → Charger → List ℕ
 area_after area stores state = cond stores (charger_area_of state) area
 
 -- a sample on the area's state, where the bytes hold one
-abbrev pub sampled : List ℕ → Sample → Sampled
+abbrev pub sampled : List ℕ → Sample → Answered Charger
 sampled area sample = sample_of (charger_in area) sample
 
 -- its answer; 1 where there is none (RULES 14.12)
@@ -49,7 +49,7 @@ unfoldable pub sample_area : List ℕ → Sample → List ℕ
 sample_area area sample = cond (is_charger_area area) (area_after area (eqb (sampled area sample).answer 0) (sampled area sample).state) area
 
 -- a transaction on the area's state, where the bytes hold one
-abbrev pub transacted : List ℕ → Bool → List ℕ → List ℕ → Transacted
+abbrev pub transacted : List ℕ → Bool → List ℕ → List ℕ → Transacted Charger
 transacted area read bytes room = transact_of (charger_in area) read bytes (length room)
 
 -- its answer with the reply's length above it; 1 where there is none (RULES 12.3, 14.12)

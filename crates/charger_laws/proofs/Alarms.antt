@@ -13,7 +13,7 @@ use Rattle.charger.specs.Commands.{charger_kind}
 use Rattle.charger_written.specs.Written.{taken_as, ends_charge, charger_written}
 use Rattle.charger_state.specs.declared.Asked.{Asked}
 use Rattle.charger_state.specs.declared.Charger.{Charger}
-use Rattle.charger.specs.declared.Transacted.{Transacted}
+use Rattle.commands.specs.declared.Transacted.{Transacted}
 use Rattle.charger_laws.proofs.Cases.{call_cases, not_taken, write_cases, sample_cases}
 use Rattle.charger_laws.proofs.Laws.{written_sound}
 use Rattle.charger_laws.proofs.Silence.{last_request}
@@ -28,7 +28,7 @@ use Rattle.frame_laws.proofs.Requests.{write_is}
 pub write_taken : (s : Charger) (c : Call) (command word : ℕ) → sound_of s ≡ true → 3 ≤ c.room → charger_kind command ≡ WriteOnly → Writes c command word
     → (result s c).state ≡ charger_written s command word
 write_taken s c command word h l k (r, (checked, b)) =
-    ap (λ (t : Transacted). t.state)
+    ap (λ (t : Transacted Charger). t.state)
     (by-outcome s c.read c.bytes c.room (Write command word checked) h l ((write_is 0x12 c.read c.bytes command word checked).1 (r, b))) ∙ rw k
 
 -- ---- one of the reasons for no current

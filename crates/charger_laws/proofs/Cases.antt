@@ -10,7 +10,7 @@ use Rattle.charger_state.specs.Charger.{power_on, sound_of, sampled_of, sample_o
 use Rattle.charger.specs.Transact.{charger_after, asked, transact_answer, transact_of}
 use Rattle.charger_written.specs.Written.{zeroed_if, mode_written, current_written, voltage_written, alarm_written, charger_written}
 use Rattle.charger_state.specs.declared.Charger.{Charger}
-use Rattle.charger_state.specs.declared.Sampled.{Sampled}
+use Rattle.pack.specs.declared.Answered.{Answered}
 use Rattle.charger_laws.specs.Events.{Call, result, answer, call, writes, takes}
 use Rattle.commands.specs.Answers.{served}
 use Rattle.frame.specs.declared.Request.{Request}
@@ -47,7 +47,7 @@ write_cases P s command word reset mode current voltage alarm none =
     (λ e. chosen P (eqb command 0x14) current (λ f. chosen P (eqb command 0x15) voltage (λ g. chosen P (eqb command 0x16) (λ i. alarm) (λ i. none))))
 
 -- a sample gives 1 and the state as it was, or 0 and goes on
-pub sample_cases : (P : Sampled → Type 0) (s : Charger) (x : Sample) → (sound_of s ≡ false → P (record { answer = 1; state = s }))
+pub sample_cases : (P : Answered Charger → Type 0) (s : Charger) (x : Sample) → (sound_of s ≡ false → P (record { answer = 1; state = s }))
     → (sound_of s ≡ true → P (record { answer = 0; state = sampled_of s x })) → P (sample_of s x)
 unfolding sample_of
 sample_cases P s x h t = go (sound_of s) refl

@@ -15,7 +15,7 @@ use Rattle.charger.specs.Commands.{is_shown, is_taken, charger_kind}
 use Rattle.charger.specs.Transact.{charger_side, charger_after, asked, transact_answer, transact_of}
 use Rattle.charger_written.specs.Written.{charger_written}
 use Rattle.charger_state.specs.declared.Charger.{Charger}
-use Rattle.charger.specs.declared.Transacted.{Transacted}
+use Rattle.commands.specs.declared.Transacted.{Transacted}
 use Rattle.charger_laws.proofs.Cases.{call_cases, write_cases, sample_cases}
 use Rattle.charger_laws.specs.Events.{Call, result, answer, visit, Event, sample, call, step, run}
 use Rattle.charger_laws.specs.Promises.{SetUpSound, SoundStays, ReadRow, WriteRow, NeverComes, OtherAddresses, RefusedKeeps, RefusedRoom, RefusedSample, ReadKeeps, IdleKeeps, AlteredKeeps}
@@ -120,7 +120,7 @@ read_keeps s c r = ap (λ (b : Bool). charger_after s (asked b c.bytes) (answer 
 
 pub idle_keeps : IdleKeeps
 idle_keeps s c (inl h) = read_keeps s c h
-idle_keeps s c (inr v) = ap (λ (t : Transacted). t.state) (refused_keeps s c v)
+idle_keeps s c (inr v) = ap (λ (t : Transacted Charger). t.state) (refused_keeps s c v)
 
 -- ---- a right five-byte write altered in one to three bits
 

@@ -11,7 +11,7 @@ use Rattle.charger_state.specs.Charger.{sound_of, alarm_inhibited, asks_for, cur
 use Rattle.charger_written.specs.Written.{charger_written}
 use Rattle.charger_state.specs.declared.Asked.{Asked}
 use Rattle.charger_state.specs.declared.Charger.{Charger}
-use Rattle.charger_state.specs.declared.Sampled.{Sampled}
+use Rattle.pack.specs.declared.Answered.{Answered}
 use Rattle.charger_laws.proofs.Cases.{call_cases, not_taken, write_cases, sample_cases, sample_goes_on}
 use Rattle.charger_laws.proofs.Laws.{step_sound}
 use Rattle.charger_laws.specs.Events.{Call, result, Event, sample, call, step, run, passes, time_of, takes, NoneTaken}
@@ -36,8 +36,8 @@ sampled_count : (s : Charger) (x : Sample) → sound_of s ≡ true → (step s (
 unfolding sampled_of
 sampled_count s x h =
     let g = sample_goes_on s x h in
-    ap (λ (r : Sampled). r.state.count) g
-    ∙ sym (ap (λ (r : Sampled). min 175000 (s.count + cond (eqb r.answer 0) (elapsed_of x.counter s.latest.counter) 0)) g)
+    ap (λ (r : Answered Charger). r.state.count) g
+    ∙ sym (ap (λ (r : Answered Charger). min 175000 (s.count + cond (eqb r.answer 0) (elapsed_of x.counter s.latest.counter) 0)) g)
 
 pub counts_silence : CountsSilence
 counts_silence s [] h n m = omega (arith, leb-true s.count 175000 h)

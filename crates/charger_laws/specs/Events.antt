@@ -4,7 +4,7 @@ use Rattle.std.specs.Prelude.{ℕ, ◌+◌, ◌<◌, Bool, true, false, cond, no
 use Rattle.charger_state.specs.Charger.{sample_of, word_of}
 use Rattle.charger.specs.Transact.{charger_side, asked, transact_answer, transact_reply, transact_of}
 use Rattle.charger_state.specs.declared.Charger.{Charger}
-use Rattle.charger.specs.declared.Transacted.{Transacted}
+use Rattle.commands.specs.declared.Transacted.{Transacted}
 use Rattle.chatter.specs.Histories.{run_of, over}
 use Rattle.chatter.specs.Struck.{Party}
 use Rattle.clock.specs.Sample.{elapsed_of}
@@ -25,7 +25,7 @@ pub record Call : Type 0 where
   pub bytes : List ℕ
   pub room : ℕ
 
-abbrev pub result : Charger → Call → Transacted
+abbrev pub result : Charger → Call → Transacted Charger
 result s c = transact_of s c.read c.bytes c.room
 
 abbrev pub answer : Charger → Call → ℕ

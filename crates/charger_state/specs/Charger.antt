@@ -3,7 +3,7 @@
 use Rattle.std.specs.Prelude.{ℕ, ◌+◌, min, Bool, true, false, cond, not, ◌&&◌, ◌||◌, ltb, leb, eqb}
 use Rattle.charger_state.specs.declared.Asked.{Asked}
 use Rattle.charger_state.specs.declared.Charger.{Charger}
-use Rattle.charger_state.specs.declared.Sampled.{Sampled}
+use Rattle.pack.specs.declared.Answered.{Answered}
 use Rattle.clock.specs.Sample.{elapsed_of}
 use Rattle.pack.specs.Kept.{latest_of}
 use Rattle.pack.specs.declared.Latest.{Latest}
@@ -87,5 +87,5 @@ sampled_of s x =
     }
 
 -- 1: state isn't sound, and nothing changes; else 0 (RULES 1.1, 2.3)
-unfoldable pub sample_of : Charger → Sample → Sampled
+unfoldable pub sample_of : Charger → Sample → Answered Charger
 sample_of s x = cond (not (sound_of s)) (record { answer = 1; state = s }) (record { answer = 0; state = sampled_of s x })

@@ -4,7 +4,7 @@
 ghost use Rattle.std.specs.Prelude.{◌≡◌, cond, ◌+◌, ◌≤◌, min};
 ghost use Rattle.charger_state.specs.Charger.{not_yet, set_up_of, sound_of, current_of, status_of, word_of, sample_of};
 
-use pack::{Latest, Sample};
+use pack::{Answered, Latest, Sample};
 
 // A request: whether one was taken, its word, and whether it must come again after an alarm.
 #[derive(Clone, Copy)]
@@ -22,13 +22,6 @@ pub struct Charger {
     pub inhibited: bool,
     pub count: u32,
     pub latest: Latest,
-}
-
-// What a sample gives back: its answer and the state left.
-#[derive(Clone, Copy)]
-pub struct Sampled {
-    pub answer: u8,
-    pub state: Charger,
 }
 
 // ---- the state
@@ -95,11 +88,11 @@ fn count_after(count: u32, elapsed: u32) -> u32
 }
 
 // A sample: answer 0, or 1 with nothing changed.
-pub fn sample(s: Charger, sample: Sample) -> Sampled
+pub fn sample(s: Charger, sample: Sample) -> Answered<Charger>
     ensures { result ≡ sample_of s sample }
 {
     if !sound(s) {
-        return Sampled {
+        return Answered {
             answer: 1,
             state: s,
         };
@@ -110,7 +103,7 @@ pub fn sample(s: Charger, sample: Sample) -> Sampled
     let mut state = s;
     state.count = count;
     state.latest = latest;
-    Sampled {
+    Answered {
         answer: 0,
         state: state,
     }

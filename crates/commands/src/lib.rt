@@ -16,6 +16,14 @@ pub enum Kind {
     Reserved,
 }
 
+// What a transaction gives back: its answer number, the state that is left, and the number of reply bytes.
+#[derive(Clone, Copy)]
+pub struct Transacted<S> {
+    pub answer: u8,
+    pub state: S,
+    pub length: usize,
+}
+
 // The rows of 00 to 3F.
 const KINDS: [Kind; 64] = [
     Kind::ReadWrite, // 00 ManufacturerAccess

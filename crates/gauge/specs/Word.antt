@@ -1,14 +1,14 @@
 -- Document 01, Registers: each read-word command 00 to 1C, its word and its answer.
 -- Assumes nothing.
 use Rattle.std.specs.Prelude.{ℕ, cond, eqb}
-use Rattle.minutes.specs.Minutes.{given_word, given_answer}
+use Rattle.minutes.specs.Minutes.{given_word, given_answer, given_shown}
 use Rattle.minutes.specs.declared.Given.{Given}
 use Rattle.minutes.specs.declared.Given.TheVariants.{Word, Until}
 use Rattle.registers.specs.Registers.{battery_mode, average_current, remaining_capacity, full_charge_capacity, design_capacity, relative_state_of_charge, absolute_state_of_charge}
 use Rattle.times.specs.Times.{at_rate_time_to_empty, at_rate_time_to_full, at_rate_ok, run_time_to_empty, average_time_to_empty, average_time_to_full}
 use Rattle.alarms.specs.Alarms.{charging_current}
 use Rattle.status.specs.Status.{battery_status}
-use Rattle.gauge.specs.declared.Shown.{Shown}
+use Rattle.minutes.specs.declared.Shown.{Shown}
 use Rattle.pack.specs.declared.State.{State}
 
 -- what a command's register gives; the word 0 for a command that has none (RULES 6.1 to 6.26)
@@ -55,4 +55,4 @@ word_answer s command = given_answer (given_of s command)
 
 -- the answer and the word
 abbrev pub shown_of : State → ℕ → Shown
-shown_of s command = record { answer = word_answer s command; word = word_of s command }
+shown_of s command = given_shown (given_of s command)

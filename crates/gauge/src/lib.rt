@@ -6,15 +6,8 @@ ghost use Rattle.gauge.specs.Word.{given_of, shown_of};
 ghost use Rattle.pack.specs.Sound.{sound_of};
 ghost use Rattle.registers.specs.Registers.{battery_mode};
 
-use minutes::Given;
+use minutes::{Given, Shown};
 use pack::{Pack, State};
-
-// What a word read gives: its answer, 0 or 10, and its word.
-#[derive(Clone, Copy)]
-pub struct Shown {
-    pub answer: u8,
-    pub word: u16,
-}
 
 // 03 BatteryMode.
 fn mode(p: Pack) -> u16
@@ -69,11 +62,5 @@ pub fn show(s: State, command: u8) -> Shown
     requires { sound_of s ≡ true }
     ensures { result ≡ shown_of s command }
 {
-    let given = register(s, command);
-    let answer = minutes::given_answer(given);
-    let word = minutes::given_word(given);
-    Shown {
-        answer: answer,
-        word: word,
-    }
+    Shown::from(register(s, command))
 }

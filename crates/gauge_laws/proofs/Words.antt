@@ -14,7 +14,7 @@ use Rattle.pack.proofs.Soundness.{parts, pack_of_sound}
 use Rattle.start.specs.SetUp.{set_up_of, set_up_refused, pack_of, zero_state}
 use Rattle.pack.specs.declared.Sample.{Sample}
 use Rattle.start.specs.declared.Setup.{Setup}
-use Rattle.start.specs.declared.Started.{Started}
+use Rattle.pack.specs.declared.Answered.{Answered}
 use Rattle.pack.specs.declared.State.{State}
 use Rattle.registers.proofs.Laws.{remaining_at_most_full}
 use Rattle.registers.specs.Registers.{design_capacity}
@@ -52,10 +52,10 @@ charging_current_off s l h =
     let p = s.pack in
     ap (λ (off : Bool). cond off 0 p.settings.ChargingCurrent) (digit_set (terminate_charge p) (sym (bits_stand p s.error l).TERMINATE_CHARGE ∙ h))
 
-abbrev refused : Started
+abbrev refused : Answered State
 refused = record { answer = 11; state = zero_state }
 
-abbrev served : Setup → Sample → Started
+abbrev served : Setup → Sample → Answered State
 served u first = record { answer = 0; state = record { error = 0; pack = pack_of u first } }
 
 chosen : (u : Setup) (first : Sample) (b : Bool) → (cond b refused (served u first)).answer ≡ 0 → cond b refused (served u first) ≡ served u first
@@ -75,4 +75,4 @@ at_first u first =
 -- a served set-up gives them
 pub initially : InitialWords
 unfolding set_up_of
-initially u first h = subst (λ (r : Started). Initially r.state) (sym (chosen u first (set_up_refused u) h)) (at_first u first)
+initially u first h = subst (λ (r : Answered State). Initially r.state) (sym (chosen u first (set_up_refused u) h)) (at_first u first)

@@ -31,7 +31,7 @@ fn print_second(rt: &impl Print, second: u32) -> io::Result<()> {
 fn reading(second: u32) -> u32
     requires { second ≤ 300 }
 {
-    std::num::wrapping_add_u32(4294900000, 1000 * second)
+    4294900000u32.wrapping_add(1000 * second)
 }
 
 fn sample_at(second: u32, m: Measured) -> Sample
@@ -67,21 +67,19 @@ fn beginning() -> State {
         current: 0,
         temperature: 2981,
     };
-    let started = start::set_up(setup, sample_at(0, rest));
-    started.state
+    start::set_up(setup, sample_at(0, rest)).state
 }
 
 // What stands in the room up to the length, if anything does.
 fn print_sent(rt: &impl Print, second: u32, room: &[u8], length: usize) -> io::Result<()> {
-    if length == 0 {
-        return Ok(());
+    match room.get(..length) {
+        None | Some([]) => Ok(()),
+        Some(sent) => {
+            print_second(rt, second)?;
+            print_bytes(rt, sent)?;
+            println!(rt)
+        }
     }
-    if length <= room.len() {
-        print_second(rt, second)?;
-        print_bytes(rt, &room[..length])?;
-        println!(rt)?;
-    }
-    Ok(())
 }
 
 // One sample; the state that it leaves comes back.
@@ -107,10 +105,8 @@ fn phase(
 {
     println!(rt; "{name}")?;
     let mut now = s;
-    let mut second = after;
-    while second < last {
-        second += 1;
-        now = tick(rt, now, second, m)?;
+    for second in after..last {
+        now = tick(rt, now, second + 1, m)?;
     }
     Ok(now)
 }

@@ -18,7 +18,7 @@ use Rattle.charger.specs.Delivered.{is_message, message_at}
 use Rattle.charger.specs.Transact.{asked, charger_after, transact_answer, transact_of}
 use Rattle.charger_written.specs.Written.{charger_written}
 use Rattle.charger_state.specs.declared.Charger.{Charger}
-use Rattle.charger.specs.declared.Transacted.{Transacted}
+use Rattle.commands.specs.declared.Transacted.{Transacted}
 use Rattle.charger_laws.proofs.Laws.{written_sound}
 use Rattle.charger_laws.specs.Events as charger
 use Rattle.clock.proofs.Outcome.{outcome}
@@ -97,7 +97,7 @@ module _ (plain : Bool) (reply : ℕ) (l : 3 ≤ reply) (word current voltage : 
   -- to its own, for a command that it takes
   taken : (c : Charger) (k w : ℕ) → charger_sound c ≡ true → charger_kind k ≡ WriteOnly → (transact_of c false (sent_as plain (message_to 0x12 k w)) reply).state ≡ charger_written c k w
   taken c k w h e =
-      ap (λ (t : Transacted). t.state) (by-outcome c false (sent_as plain (message_to 0x12 k w)) reply (Write k w (not plain)) h l (own plain k w)) ∙ rw e
+      ap (λ (t : Transacted Charger). t.state) (by-outcome c false (sent_as plain (message_to 0x12 k w)) reply (Write k w (not plain)) h l (own plain k w)) ∙ rw e
 
   abbrev alarms : Bool → Bool → List Message
   alarms a b = cond a (message_to 0x10 0x16 word ∷ cond b (message_to 0x12 0x16 word ∷ []) []) []

@@ -12,7 +12,7 @@ use Rattle.bus_laws.specs.Calls.{Call}
 use Rattle.charger_state.specs.Charger.{sound_of as charger_sound, sampled_of as charger_sampled_of}
 use Rattle.charger_written.specs.Written.{charger_written}
 use Rattle.charger_state.specs.declared.Charger.{Charger}
-use Rattle.charger_state.specs.declared.Sampled.{Sampled as ChargerSampled}
+use Rattle.pack.specs.declared.Answered.{Answered}
 use Rattle.charger_laws.proofs.Cases.{sample_goes_on}
 use Rattle.charger_laws.proofs.Laws.{step_sound as charger-step-sound, sound_stays as charger-sound-stays, idle_keeps}
 use Rattle.charger_laws.specs.Events as charger
@@ -63,7 +63,7 @@ tick_charger P j t (s, k) a l first last =
     ds = deliveries t.reply (messages_from j.pack t)
 
     sampled : (d : Charger) → charger_sound d ≡ true → charger.step d (charger.sample t.charger) ≡ charger_sampled_of d t.charger
-    sampled d h = ap (λ (r : ChargerSampled). r.state) (sample_goes_on d t.charger h)
+    sampled d h = ap (λ (r : Answered Charger). r.state) (sample_goes_on d t.charger h)
 
     before : charger.run c (charger.sample t.charger ∷ ds) ≡ broadcast_taken (charger_sampled_of c t.charger) (moved_of j.pack.pack t.pack)
     before =

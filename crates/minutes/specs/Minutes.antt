@@ -5,6 +5,7 @@ use Rattle.minutes.specs.declared.Time.{Time}
 use Rattle.minutes.specs.declared.Time.TheVariants.{Minutes, Beyond, NotMoving}
 use Rattle.minutes.specs.declared.Given.{Given}
 use Rattle.minutes.specs.declared.Given.TheVariants.{Word, Until, NoTime}
+use Rattle.minutes.specs.declared.Shown.{Shown}
 
 -- capacity by rate: not moving that way unless the rate flows it; a rate that rounds to 0, and floor(60 × capacity ÷ rate) above 65,534, is beyond the range (RULES 6.5, 6.17)
 abbrev pub time_of : Bool → ℕ → ℕ → Time
@@ -37,3 +38,7 @@ abbrev pub given_answer : Given → ℕ
 given_answer (Word w) = 0
 given_answer (Until t) = cond (was_cut_off t) 10 0
 given_answer NoTime = 10
+
+-- the answer and the word (RULES 1.10)
+abbrev pub given_shown : Given → Shown
+given_shown g = record { answer = given_answer g; word = given_word g }

@@ -2,7 +2,7 @@
 #![tactic(auto)]
 
 ghost use Rattle.std.specs.Prelude.{◌≡◌};
-ghost use Rattle.minutes.specs.Minutes.{time_of, time_word, was_cut_off, given_word, given_answer};
+ghost use Rattle.minutes.specs.Minutes.{time_of, time_word, was_cut_off, given_word, given_answer, given_shown};
 
 // How long a capacity lasts at a rate: minutes, 0 to 65,534; longer than that; for ever, as nothing moves that way.
 #[derive(Clone, Copy)]
@@ -18,6 +18,13 @@ pub enum Given {
     Word(u16),
     Until(Time),
     NoTime,
+}
+
+// What a read shows of it: its answer, 0 or 10, and its word.
+#[derive(Clone, Copy)]
+pub struct Shown {
+    pub answer: u8,
+    pub word: u16,
 }
 
 // Capacity by rate, if the rate flows the command's way.
@@ -53,11 +60,7 @@ pub fn time_word(t: Time) -> u16
 fn was_cut_off(t: Time) -> bool
     ensures { result ≡ was_cut_off t }
 {
-    match t {
-        Time::Minutes(_) => false,
-        Time::Beyond => true,
-        Time::NotMoving => false,
-    }
+    matches!(t, Time::Beyond)
 }
 
 // The word of what a register gives.
@@ -82,9 +85,13 @@ pub fn given_answer(g: Given) -> u8
     }
 }
 
-// What a word read gives: its answer, 0 or 10, and its word.
-#[derive(Clone, Copy)]
-pub struct Shown {
-    pub answer: u8,
-    pub word: u16,
+impl From<Given> for Shown {
+    ghost from_gives = { λ given shown. shown ≡ given_shown given };
+
+    fn from(given: Given) -> Shown {
+        Shown {
+            answer: given_answer(given),
+            word: given_word(given),
+        }
+    }
 }

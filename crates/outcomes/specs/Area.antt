@@ -2,7 +2,8 @@
 -- Assumes nothing.
 use Rattle.std.specs.Prelude.{ℕ, Bool, List, [], ◌∷◌, ◌≡◌}
 use Rattle.area.specs.Area.{area_of, is_area, loaded, loaded_of, stored_of, stored_room}
-use Rattle.area.specs.declared.Loaded.{Loaded}
+use Rattle.pack.specs.declared.Answered.{Answered}
+use Rattle.pack.specs.declared.State.{State}
 use Rattle.outcomes.specs.Outcome.{Terms, terms_of}
 use Rattle.area.specs.contracts.store as store_owed
 use Rattle.area.specs.contracts.is_area as is_area_owed
@@ -27,7 +28,7 @@ is_area_terms = terms_of
 -- `load`
 abbrev pub load_terms : Terms load_owed.ended
 load_terms = record {
-  Outcome = Loaded ∷ [];
+  Outcome = Answered State ∷ [];
   comes = λ κs r _. (r, tt);
   must = λ κs (area, _). (loaded_of area.now, tt);
   adds = λ κs (area, _) r _. (r.answer ≡ 0 → area_of r.state ≡ area.now) ∷ [];

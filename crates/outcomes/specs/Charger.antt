@@ -5,10 +5,9 @@ use Rattle.charger_state.specs.Charger.{current_of, sample_of, set_up_of, sound_
 use Rattle.charger.specs.Delivered.{message_at, message_place}
 use Rattle.charger.specs.Transact.{reply_room, transact_of}
 use Rattle.charger_state.specs.declared.Charger.{Charger}
-use Rattle.charger_state.specs.declared.Sampled.{Sampled}
-use Rattle.charger.specs.declared.Transacted.{Transacted}
+use Rattle.pack.specs.declared.Answered.{Answered}
+use Rattle.commands.specs.declared.Transacted.{Transacted}
 use Rattle.charger_area.specs.Area.{charger_area_of, is_charger_area, loaded, loaded_of, stored_of, stored_room}
-use Rattle.charger_area.specs.declared.Loaded.{Loaded}
 use Rattle.outcomes.specs.Outcome.{Terms, terms_of}
 use Rattle.charger_state.specs.contracts.set_up as charger_set_up_owed
 use Rattle.charger_state.specs.contracts.sound as charger_sound_owed
@@ -44,14 +43,14 @@ charger_current_terms = terms_of
 -- `sample`
 abbrev pub charger_sample_terms : Terms charger_sample_owed.ended
 charger_sample_terms = terms_of
-    (Sampled ∷ [])
+    (Answered Charger ∷ [])
     (λ κs r _. (r, tt))
     (λ κs (s, (sample, _)). (sample_of s sample, tt))
 
 -- `transact`
 abbrev pub charger_transact_terms : Terms charger_transact_owed.ended
 charger_transact_terms = terms_of
-    (Transacted ∷ List ℕ ∷ [])
+    (Transacted Charger ∷ List ℕ ∷ [])
     (λ κs r (_, (_, (_, (room, _)))). (r, (room.now, tt)))
     (λ κs (s, (read, (bytes, (room, _)))). (transact_of s read bytes.now (length room.now), (reply_room s read bytes.now room.now, tt)))
 
@@ -81,7 +80,7 @@ charger_is_area_terms = terms_of
 -- `load`
 abbrev pub charger_load_terms : Terms charger_load_owed.ended
 charger_load_terms = record {
-  Outcome = Loaded ∷ [];
+  Outcome = Answered Charger ∷ [];
   comes = λ κs r _. (r, tt);
   must = λ κs (area, _). (loaded_of area.now, tt);
   adds = λ κs (area, _) r _. (r.answer ≡ 0 → charger_area_of r.state ≡ area.now) ∷ [];

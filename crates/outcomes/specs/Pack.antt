@@ -2,7 +2,7 @@
 -- Assumes nothing.
 use Rattle.std.specs.Prelude.{ℕ, length, Bool, List, [], ◌∷◌}
 use Rattle.bus.specs.Transact.{reply_room, transact_of}
-use Rattle.bus.specs.declared.Transacted.{Transacted}
+use Rattle.commands.specs.declared.Transacted.{Transacted}
 use Rattle.clock.specs.Broadcast.{broadcast_room, sample_of}
 use Rattle.clock.specs.Sample.{elapsed_of}
 use Rattle.clock.specs.declared.Sampled.{Sampled}
@@ -11,7 +11,7 @@ use Rattle.pack.specs.Kept.{latest_of}
 use Rattle.start.specs.SetUp.{set_up_of, zero_state}
 use Rattle.pack.specs.Sound.{sound_of}
 use Rattle.pack.specs.declared.Latest.{Latest}
-use Rattle.start.specs.declared.Started.{Started}
+use Rattle.pack.specs.declared.Answered.{Answered}
 use Rattle.pack.specs.declared.State.{State}
 use Rattle.pack.specs.contracts.sound as sound_owed
 use Rattle.start.specs.contracts.zero as zero_owed
@@ -45,7 +45,7 @@ latest_of_terms = terms_of
 -- `set_up`
 abbrev pub set_up_terms : Terms set_up_owed.ended
 set_up_terms = terms_of
-    (Started ∷ [])
+    (Answered State ∷ [])
     (λ κs r _. (r, tt))
     (λ κs (u, (first, _)). (set_up_of u first, tt))
 
@@ -66,6 +66,6 @@ sample_terms = terms_of
 -- `transact`
 abbrev pub transact_terms : Terms transact_owed.ended
 transact_terms = terms_of
-    (Transacted ∷ List ℕ ∷ [])
+    (Transacted State ∷ List ℕ ∷ [])
     (λ κs r (_, (_, (_, (_, (_, (room, _)))))). (r, (room.now, tt)))
     (λ κs (s, (service, (factory, (read, (bytes, (room, _)))))). (transact_of s service.now factory.now read bytes.now (length room.now), (reply_room s service.now factory.now read bytes.now room.now, tt)))

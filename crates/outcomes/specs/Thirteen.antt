@@ -3,14 +3,12 @@
 use Rattle.std.specs.Prelude.{ℕ, length, Bool, List, [], ◌∷◌, ◌≡◌}
 use Rattle.outcomes.specs.Outcome.{Terms, terms_of}
 use Rattle.thirteen.specs.Transact.{reply_room, transact_of}
-use Rattle.thirteen.specs.declared.ThirteenTransacted.{ThirteenTransacted}
+use Rattle.commands.specs.declared.Transacted.{Transacted}
 use Rattle.thirteen_area.specs.Area.{is_thirteen_area, loaded, loaded_of, stored_of, stored_room, thirteen_area_of}
-use Rattle.thirteen_area.specs.declared.Loaded.{Loaded}
+use Rattle.pack.specs.declared.Answered.{Answered}
 use Rattle.thirteen_pack.specs.Sample.{sample_of}
 use Rattle.thirteen_pack.specs.SetUp.{set_up_of, zero_state}
 use Rattle.thirteen_pack.specs.Sound.{sound_of}
-use Rattle.thirteen_pack.specs.declared.ThirteenSampled.{ThirteenSampled}
-use Rattle.thirteen_pack.specs.declared.ThirteenStarted.{ThirteenStarted}
 use Rattle.thirteen_pack.specs.declared.ThirteenState.{ThirteenState}
 use Rattle.thirteen_pack.specs.contracts.sound as thirteen_sound_owed
 use Rattle.thirteen_pack.specs.contracts.zero as thirteen_zero_owed
@@ -38,21 +36,21 @@ thirteen_zero_terms = terms_of
 -- `set_up`
 abbrev pub thirteen_set_up_terms : Terms thirteen_set_up_owed.ended
 thirteen_set_up_terms = terms_of
-    (ThirteenStarted ∷ [])
+    (Answered ThirteenState ∷ [])
     (λ κs r _. (r, tt))
     (λ κs (u, (health, (first, (cells, _)))). (set_up_of u health first cells, tt))
 
 -- `sample`
 abbrev pub thirteen_sample_terms : Terms thirteen_sample_owed.ended
 thirteen_sample_terms = terms_of
-    (ThirteenSampled ∷ [])
+    (Answered ThirteenState ∷ [])
     (λ κs r _. (r, tt))
     (λ κs (s, (x, (cells, _))). (sample_of s x cells, tt))
 
 -- `transact`
 abbrev pub thirteen_transact_terms : Terms thirteen_transact_owed.ended
 thirteen_transact_terms = terms_of
-    (ThirteenTransacted ∷ List ℕ ∷ [])
+    (Transacted ThirteenState ∷ List ℕ ∷ [])
     (λ κs r (_, (_, (_, (room, _)))). (r, (room.now, tt)))
     (λ κs (s, (read, (bytes, (room, _)))). (transact_of s read bytes.now (length room.now), (reply_room s read bytes.now room.now, tt)))
 
@@ -75,7 +73,7 @@ thirteen_is_area_terms = terms_of
 -- `load`
 abbrev pub thirteen_load_terms : Terms thirteen_load_owed.ended
 thirteen_load_terms = record {
-  Outcome = Loaded ∷ [];
+  Outcome = Answered ThirteenState ∷ [];
   comes = λ κs r _. (r, tt);
   must = λ κs (area, _). (loaded_of area.now, tt);
   adds = λ κs (area, _) r _. (r.answer ≡ 0 → thirteen_area_of r.state ≡ area.now) ∷ [];

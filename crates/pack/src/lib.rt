@@ -100,6 +100,13 @@ pub struct Sample {
     pub counter: u32,
 }
 
+// What a call gives back: its answer number, and the state that is left.
+#[derive(Clone, Copy)]
+pub struct Answered<S> {
+    pub answer: u8,
+    pub state: S,
+}
+
 fn agree(a: bool, b: bool) -> bool
     ensures { result ≡ exactly a b }
 {

@@ -4,7 +4,7 @@
 
 ghost use Rattle.std.specs.Prelude.{◌≤◌};
 
-use bus::Transacted;
+use commands::Transacted;
 use pack::{Sample, State};
 use rooms::wide;
 use start::Setup;
@@ -96,7 +96,7 @@ fn half_full() -> State {
 }
 
 // A call of the pack, whose sheets list nothing.
-fn call(s: State, read: bool, bytes: &[u8], room: &mut [u8]) -> Transacted {
+fn call(s: State, read: bool, bytes: &[u8], room: &mut [u8]) -> Transacted<State> {
     let none = [0u8; 1];
     bus::transact(s, &none, &none, read, bytes, room)
 }

@@ -33,7 +33,7 @@ use Rattle.runs.specs.Events.{Event, sample, call, step, Throughout, answer_to, 
 use Rattle.runs.specs.Since.{from_set_up}
 use Rattle.start.specs.SetUp.{set_up_of, pack_of, set_up_refused, zero_state}
 use Rattle.start.specs.declared.Setup.{Setup}
-use Rattle.start.specs.declared.Started.{Started}
+use Rattle.pack.specs.declared.Answered.{Answered}
 use Rattle.status.specs.Status.{status_bits}
 use Rattle.tank.specs.Tank.{seen_of, tank_after}
 use Rattle.written.specs.Written.{pack_written}
@@ -183,10 +183,10 @@ set_up_as : (plain : Bool) (u : Setup) (first : Sample) → (set_up_of u first).
 unfolding set_up_of pack_of
 set_up_as plain u first = either (set_up_refused u)
   where
-    none : Started
+    none : Answered State
     none = record { answer = 11; state = zero_state }
 
-    made : Setup → Started
+    made : Setup → Answered State
     made v = record { answer = 0; state = record { error = 0; pack = pack_of v first } }
 
     either : (b : Bool) → (cond b none (made u)).answer ≡ 0 → (cond b none (made (setup_as plain u))).state ≡ state_as plain (cond b none (made u)).state

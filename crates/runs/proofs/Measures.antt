@@ -15,7 +15,7 @@ use Rattle.pack.specs.Sound.{sound_of}
 use Rattle.pack.specs.declared.Pack.{Pack}
 use Rattle.pack.specs.declared.Sample.{Sample}
 use Rattle.start.specs.declared.Setup.{Setup}
-use Rattle.start.specs.declared.Started.{Started}
+use Rattle.pack.specs.declared.Answered.{Answered}
 use Rattle.pack.specs.declared.State.{State}
 use Rattle.runs.proofs.Histories.{seen_through, still_keeps}
 use Rattle.runs.specs.Events.{Event, sample, step, run, accepted_of, time_of}
@@ -95,7 +95,7 @@ pub set_up_pack : (u : Setup) (first : Sample) → (set_up_of u first).answer �
 unfolding set_up_of
 set_up_pack u first = go (set_up_refused u)
   where
-    started : Bool → Started
+    started : Bool → Answered State
     started b = cond b (record { answer = 11; state = zero_state }) (record { answer = 0; state = record { error = 0; pack = pack_of u first } })
 
     go : (b : Bool) → (started b).answer ≡ 0 → (started b).state.pack ≡ pack_of u first

@@ -27,7 +27,7 @@ use Rattle.runs.specs.Since.{from_set_up}
 use Rattle.runs.specs.Struck.{pack_party}
 use Rattle.start.specs.SetUp.{set_up_refused, zero_state, pack_of, set_up_of}
 use Rattle.start.specs.declared.Setup.{Setup}
-use Rattle.start.specs.declared.Started.{Started}
+use Rattle.pack.specs.declared.Answered.{Answered}
 
 -- what is left out is idle
 reads_struck : (s : State) (es : List Event) → Struck pack_party s es (unpolled es)
@@ -88,7 +88,7 @@ begins_at_0 : (u : Setup) (first : Sample) → (from_set_up u first).error ≡ 0
 unfolding set_up_of
 begins_at_0 u first = go (set_up_refused u)
   where
-    go : (b : Bool) → (cond {A = Started} b (record { answer = 11; state = zero_state }) (record { answer = 0; state = record { error = 0; pack = pack_of u first } })).state.error ≡ 0
+    go : (b : Bool) → (cond {A = Answered State} b (record { answer = 11; state = zero_state }) (record { answer = 0; state = record { error = 0; pack = pack_of u first } })).state.error ≡ 0
     go true = refl
     go false = refl
 

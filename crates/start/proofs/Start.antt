@@ -18,17 +18,18 @@ use Rattle.start.specs.Fits.{SetupFits}
 use Rattle.start.specs.Promises.{ZeroUnsound, SoundWhenServed, ServedOrZero, Initial, InitialValues, ZeroFits, StartFits}
 use Rattle.start.specs.SetUp.{set_up_of, set_up_refused, pack_of, zero_state}
 use Rattle.start.specs.declared.Setup.{Setup}
-use Rattle.start.specs.declared.Started.{Started}
+use Rattle.pack.specs.declared.Answered.{Answered}
+use Rattle.pack.specs.declared.State.{State}
 
 -- the two outcomes
-abbrev refusal : Started
+abbrev refusal : Answered State
 refusal = record { answer = 11; state = zero_state }
 
-abbrev start : Setup → Sample → Started
+abbrev start : Setup → Sample → Answered State
 start u first = record { answer = 0; state = record { error = 0; pack = pack_of u first } }
 
 -- what holds of both outcomes holds of set-up's
-module _ (P : Started → Type 0) (u : Setup) (first : Sample) (f : P refusal) (g : set_up_refused u ≡ false → P (start u first)) where
+module _ (P : Answered State → Type 0) (u : Setup) (first : Sample) (f : P refusal) (g : set_up_refused u ≡ false → P (start u first)) where
   chosen : (b : Bool) → set_up_refused u ≡ b → P (cond b refusal (start u first))
   chosen true h = f
   chosen false h = g h

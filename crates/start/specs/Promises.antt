@@ -7,7 +7,8 @@ use Rattle.pack.specs.declared.Sample.{Sample}
 use Rattle.start.specs.Fits.{SetupFits}
 use Rattle.start.specs.SetUp.{set_up_of, zero_state}
 use Rattle.start.specs.declared.Setup.{Setup}
-use Rattle.start.specs.declared.Started.{Started}
+use Rattle.pack.specs.declared.Answered.{Answered}
+use Rattle.pack.specs.declared.State.{State}
 
 -- the all-zero state isn't sound
 abbrev pub ZeroUnsound : Type 0
@@ -23,7 +24,7 @@ ServedOrZero =
     (u : Setup) (first : Sample) → ((set_up_of u first).answer ≡ 0) ⊎ (set_up_of u first ≡ record { answer = 11; state = zero_state })
 
 -- what 002 section 4.4.1 demands of a pack at first
-pub record Initial (u : Setup) (r : Started) : Type 0 where
+pub record Initial (u : Setup) (r : Answered State) : Type 0 where
   pub RemainingCapacityAlarm : r.state.pack.host.RemainingCapacityAlarm ≡ u.DesignCapacity / 10
   pub RemainingTimeAlarm : r.state.pack.host.RemainingTimeAlarm ≡ 10
   pub AlarmMode : r.state.pack.host.AlarmMode ≡ false

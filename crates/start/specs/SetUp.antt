@@ -13,7 +13,7 @@ use Rattle.pack.specs.declared.Timers.{Timers}
 use Rattle.capacity.specs.Capacity.{milliamp_ms, fully_discharged_of}
 use Rattle.recent.specs.Recent.{zero_recent}
 use Rattle.start.specs.declared.Setup.{Setup}
-use Rattle.start.specs.declared.Started.{Started}
+use Rattle.pack.specs.declared.Answered.{Answered}
 
 -- design capacity, full capacity or design voltage 0, or remaining above full (RULES 1.11)
 abbrev pub set_up_refused : Setup → Bool
@@ -132,7 +132,7 @@ zero_state = record { error = 0; pack = zero_pack }
 -- ---- set-up
 
 -- 11 and the all-zero state where refused; else 0 and a state with error code 0 (RULES 1.11)
-unfoldable pub set_up_of : Setup → Sample → Started
+unfoldable pub set_up_of : Setup → Sample → Answered State
 set_up_of u first =
     cond (set_up_refused u) (record { answer = 11; state = zero_state })
     (record { answer = 0; state = record { error = 0; pack = pack_of u first } })

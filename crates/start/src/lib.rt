@@ -4,7 +4,7 @@
 ghost use Rattle.std.specs.Prelude.{◌≡◌, ◌<◌, ◌≤◌};
 ghost use Rattle.start.specs.SetUp.{set_up_of, set_up_refused, pack_of, settings_of, host_of, tank_of, zero_settings, zero_host, zero_latest, zero_tank, zero_state};
 
-use pack::{Host, Latest, Pack, Run, Sample, Settings, State, Tank, Timers};
+use pack::{Answered, Host, Latest, Pack, Run, Sample, Settings, State, Tank, Timers};
 
 // What set-up brings beside the first sample; capacities in mAh; plain: broadcasts without PEC are asked for.
 #[derive(Clone, Copy)]
@@ -22,12 +22,6 @@ pub struct Setup {
     pub TemperatureLimit: u16,
     pub DischargeLimit: u16,
     pub plain: bool,
-}
-
-#[derive(Clone, Copy)]
-pub struct Started {
-    pub answer: u8,
-    pub state: State,
 }
 
 fn zero_settings() -> Settings
@@ -201,12 +195,12 @@ fn pack_of(u: Setup, first: Sample) -> Pack
 }
 
 // Set-up, with the first sample: answer 0 and a sound state, or 11 and the all-zero state.
-pub fn set_up(u: Setup, first: Sample) -> Started
+pub fn set_up(u: Setup, first: Sample) -> Answered<State>
     ensures { result ≡ set_up_of u first }
 {
     if refused(u) {
         let none = zero();
-        return Started {
+        return Answered {
             answer: 11,
             state: none,
         };
@@ -216,7 +210,7 @@ pub fn set_up(u: Setup, first: Sample) -> Started
         error: 0,
         pack: pack,
     };
-    Started {
+    Answered {
         answer: 0,
         state: state,
     }

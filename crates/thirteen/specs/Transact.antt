@@ -7,7 +7,7 @@ use Rattle.frame.specs.Transactions.{request_of}
 use Rattle.frame.specs.declared.Request.{Request}
 use Rattle.rooms.specs.Rooms.{placed}
 use Rattle.thirteen.specs.Commands.{thirteen_kind}
-use Rattle.thirteen.specs.declared.ThirteenTransacted.{ThirteenTransacted}
+use Rattle.commands.specs.declared.Transacted.{Transacted}
 use Rattle.thirteen_pack.specs.Sound.{sound_of}
 use Rattle.thirteen_pack.specs.declared.ThirteenState.{ThirteenState}
 use Rattle.thirteen_words.specs.Cells.{cell_bytes}
@@ -30,7 +30,7 @@ thirteen_side s =
     }
 
 -- the answer, the state with the error code that it leaves, all else as it was, and the number of reply bytes (RULES 15.11)
-abbrev pub outcome : ThirteenState → ℕ → ℕ → ThirteenTransacted
+abbrev pub outcome : ThirteenState → ℕ → ℕ → Transacted ThirteenState
 outcome s answer length =
     record { answer = answer; state = record { error = code_after answer s.error; pack = s.pack }; length = length }
 
@@ -47,12 +47,12 @@ unfoldable pub transact_reply : ThirteenState → Bool → List ℕ → ℕ → 
 transact_reply s read bytes room = side_reply (thirteen_side s) bytes (asked read bytes) (transact_answer s read bytes room)
 
 -- what a read is given where its answer is that of its command's row
-abbrev pub row_given : ThirteenState → List ℕ → ℕ → Kind → ThirteenTransacted
+abbrev pub row_given : ThirteenState → List ℕ → ℕ → Kind → Transacted ThirteenState
 row_given s bytes command kind =
     outcome s (read_answer (thirteen_side s) command kind) (length (row_reply (thirteen_side s) bytes command kind))
 
 -- what the driver's bytes and mark are given (RULES 2, 15.11)
-unfoldable pub transact_of : ThirteenState → Bool → List ℕ → ℕ → ThirteenTransacted
+unfoldable pub transact_of : ThirteenState → Bool → List ℕ → ℕ → Transacted ThirteenState
 transact_of s read bytes room = outcome s (transact_answer s read bytes room) (length (transact_reply s read bytes room))
 
 -- the lent reply room: the reply's bytes at the front, the rest stays (RULES 2.3, 2.5)

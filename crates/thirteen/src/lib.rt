@@ -11,17 +11,9 @@ ghost use Rattle.thirteen.specs.Transact.{thirteen_side, outcome, row_given, tra
 ghost use Rattle.thirteen_pack.specs.Sound.{sound_of};
 ghost use Rattle.thirteen_words.specs.Word.{word_of, word_answer};
 
-use commands::Kind;
+use commands::{Kind, Transacted};
 use frame::Request;
 use thirteen_pack::ThirteenState;
-
-// What a transaction gives back: its answer, the state left, the number of reply bytes.
-#[derive(Clone, Copy)]
-pub struct ThirteenTransacted {
-    pub answer: u8,
-    pub state: ThirteenState,
-    pub length: usize,
-}
 
 // ---- rows
 
@@ -64,7 +56,7 @@ fn row(command: u8) -> Kind
 // ---- transactions
 
 // The answer, the error code that it leaves and the number of reply bytes; nothing else changes.
-fn answered(s: ThirteenState, answer: u8, length: usize) -> ThirteenTransacted
+fn answered(s: ThirteenState, answer: u8, length: usize) -> Transacted<ThirteenState>
     ensures { result ≡ outcome s answer length }
 {
     let error = commands::code_after(answer, s.error);
@@ -73,7 +65,7 @@ fn answered(s: ThirteenState, answer: u8, length: usize) -> ThirteenTransacted
         error: error,
         pack: pack,
     };
-    ThirteenTransacted {
+    Transacted {
         answer: answer,
         state: state,
         length: length,
@@ -81,7 +73,7 @@ fn answered(s: ThirteenState, answer: u8, length: usize) -> ThirteenTransacted
 }
 
 // A word read, with the answer that comes with the word.
-fn serve_word(s: ThirteenState, command: u8, bytes: &[u8], room: &mut [u8]) -> ThirteenTransacted
+fn serve_word(s: ThirteenState, command: u8, bytes: &[u8], room: &mut [u8]) -> Transacted<ThirteenState>
     requires { (sound_of s ≡ true) × (34 ≤ length room.old) }
     ensures result { result ≡ outcome s (word_answer s.pack command) (length (reply_of bytes.now (word_body (word_of s.pack command)))) }
     ensures memory { room.new ≡ placed (reply_of bytes.now (word_body (word_of s.pack command))) room.old }
@@ -92,7 +84,7 @@ fn serve_word(s: ThirteenState, command: u8, bytes: &[u8], room: &mut [u8]) -> T
 }
 
 // A read of all cells, which have no count.
-fn serve_cells(s: ThirteenState, command: u8, bytes: &[u8], room: &mut [u8]) -> ThirteenTransacted
+fn serve_cells(s: ThirteenState, command: u8, bytes: &[u8], room: &mut [u8]) -> Transacted<ThirteenState>
     requires { 34 ≤ length room.old }
     ensures result { result ≡ row_given s bytes.now command Block }
     ensures memory { room.new ≡ placed (row_reply (thirteen_side s) bytes.now command Block) room.old }
@@ -104,7 +96,7 @@ fn serve_cells(s: ThirteenState, command: u8, bytes: &[u8], room: &mut [u8]) -> 
 }
 
 // A read, by its command's row.
-fn serve_read(s: ThirteenState, command: u8, bytes: &[u8], room: &mut [u8]) -> ThirteenTransacted
+fn serve_read(s: ThirteenState, command: u8, bytes: &[u8], room: &mut [u8]) -> Transacted<ThirteenState>
     requires { (sound_of s ≡ true) × (34 ≤ length room.old) }
     ensures result { result ≡ row_given s bytes.now command (thirteen_kind command) }
     ensures memory { room.new ≡ placed (row_reply (thirteen_side s) bytes.now command (thirteen_kind command)) room.old }
@@ -130,7 +122,7 @@ fn write_answer(command: u8, checked: bool) -> u8
 }
 
 // What the driver's bytes and mark are answered.
-pub fn transact(s: ThirteenState, read: bool, bytes: &[u8], room: &mut [u8]) -> ThirteenTransacted
+pub fn transact(s: ThirteenState, read: bool, bytes: &[u8], room: &mut [u8]) -> Transacted<ThirteenState>
     ensures result { result ≡ transact_of s read bytes.now (length room.old) }
     ensures memory { room.new ≡ reply_room s read bytes.now room.old }
 {

@@ -15,7 +15,7 @@ use Rattle.std.specs.Prelude.{ℕ, ◌+◌, Bool, cond, ◌&&◌, List, [], ◌�
 use Rattle.area_parts.specs.Parts.{latest_widths, latest_bytes, latest_in, recent_widths, recent_bytes, recent_in}
 use Rattle.numbers.specs.Numbers.{number_bytes, numbers_bytes, number_at, numbers_at, bytes_taken, flag_of, flagged, flags}
 use Rattle.rooms.specs.Rooms.{between}
-use Rattle.thirteen_area.specs.declared.Loaded.{Loaded}
+use Rattle.pack.specs.declared.Answered.{Answered}
 use Rattle.thirteen_pack.specs.SetUp.{zero_state}
 use Rattle.thirteen_pack.specs.declared.Fixed.{Fixed}
 use Rattle.thirteen_pack.specs.declared.Level.{Level}
@@ -143,11 +143,11 @@ is_thirteen_area area = eqb (length area) thirteen_length && is_level (between a
 -- ---- the two entries
 
 -- a state, and that it was loaded (RULES 15.12)
-abbrev pub loaded : ThirteenState → Loaded
+abbrev pub loaded : ThirteenState → Answered ThirteenState
 loaded s = record { answer = 0; state = s }
 
 -- 0 and the state of an area; of other bytes 1, and the all-zero state (RULES 15.12)
-unfoldable pub loaded_of : List ℕ → Loaded
+unfoldable pub loaded_of : List ℕ → Answered ThirteenState
 loaded_of area = cond (is_thirteen_area area) (loaded (state_in area)) (record { answer = 1; state = zero_state })
 
 -- a state goes into room for an area, if its count of kept seconds is a byte (RULES 15.12)

@@ -8,6 +8,7 @@ ghost use Rattle.thirteen_pack.specs.Fits.{CellsFit, Fits};
 
 use area_parts::{flag, latest_in, put_latest, put_recent, recent_in};
 use numbers::{byte_at, number_at, put_number, put_words, word_at, words_at};
+use pack::Answered;
 use thirteen_pack::{Fixed, Level, Thirteen, ThirteenState};
 
 // Where each part behind the error code starts, and the bytes that an area has.
@@ -22,13 +23,6 @@ const LEVEL: usize = CELLS + 26;
 const RECENT: usize = LEVEL + 11;
 
 pub const LENGTH: usize = RECENT + 247;
-
-// What an area holds.
-#[derive(Clone, Copy)]
-pub struct Loaded {
-    pub answer: u8,
-    pub state: ThirteenState,
-}
 
 // ---- what set-up fixes
 
@@ -162,19 +156,19 @@ fn state_in(area: &[u8]) -> ThirteenState
 }
 
 // The state of an area: answer 0; or 1 and the all-zero state.
-pub fn load(area: &[u8]) -> Loaded
+pub fn load(area: &[u8]) -> Answered<ThirteenState>
     ensures is { result ≡ loaded_of area.now }
     ensures back { result.answer ≡ 0 → thirteen_area_of result.state ≡ area.now }
 {
     if is_area(area) {
         let state = state_in(area);
-        return Loaded {
+        return Answered {
             answer: 0,
             state: state,
         };
     }
     let none = thirteen_pack::zero();
-    Loaded {
+    Answered {
         answer: 1,
         state: none,
     }

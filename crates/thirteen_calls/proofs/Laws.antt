@@ -19,14 +19,14 @@ use Rattle.thirteen_calls.specs.Calls.{area_after, sample_area, transact_area}
 use Rattle.thirteen_calls.specs.Laws.{SampleHolds, TransactHolds}
 use Rattle.thirteen_pack.specs.Sample.{sample_of}
 use Rattle.thirteen_pack.specs.Sound.{sound_of}
-use Rattle.thirteen_pack.specs.declared.ThirteenSampled.{ThirteenSampled}
+use Rattle.pack.specs.declared.Answered.{Answered}
 use Rattle.thirteen_pack.specs.declared.ThirteenState.{ThirteenState}
 
 pub sample_holds : SampleHolds
 unfolding sample_area sample_of
 sample_holds a x cells b is =
     rw is
-    (chosen (λ (r : ThirteenSampled). area_after a r.answer r.state ≡ thirteen_area_of r.state) (not (sound_of (state_in a)))
+    (chosen (λ (r : Answered ThirteenState). area_after a r.answer r.state ≡ thirteen_area_of r.state) (not (sound_of (state_in a)))
     (λ e. sym (held a b is)) (λ e. refl))
 
 -- 1 to 3 leave the error code as it was

@@ -4,12 +4,11 @@ use Rattle.std.specs.Prelude.{Bool, cond, ◌&&◌, List, ℕ, eqb, ltb, leb, le
 use Rattle.pack.specs.declared.Sample.{Sample}
 use Rattle.packed.specs.Packed.{packed}
 use Rattle.thirteen.specs.Transact.{transact_of, reply_room}
-use Rattle.thirteen.specs.declared.ThirteenTransacted.{ThirteenTransacted}
+use Rattle.commands.specs.declared.Transacted.{Transacted}
 use Rattle.thirteen_area.specs.Area.{thirteen_length, thirteen_area_of, state_in, is_thirteen_area}
 use Rattle.thirteen_pack.specs.Sample.{sample_of}
 use Rattle.thirteen_pack.specs.Sound.{sound_of}
-use Rattle.thirteen_pack.specs.declared.ThirteenSampled.{ThirteenSampled}
-use Rattle.thirteen_pack.specs.declared.ThirteenStarted.{ThirteenStarted}
+use Rattle.pack.specs.declared.Answered.{Answered}
 use Rattle.thirteen_pack.specs.declared.ThirteenState.{ThirteenState}
 
 -- the area after a set-up or a sample: what is answered 0 stores its whole state, a refusal nothing (RULES 15.4, 15.5, 15.12)
@@ -19,11 +18,11 @@ area_after area answer state = cond (eqb answer 0) (thirteen_area_of state) area
 -- ---- set-up
 
 -- set-up's own answer; 1 for an area of another size (RULES 15.4, 15.12)
-abbrev pub start_number : List ℕ → ThirteenStarted → ℕ
+abbrev pub start_number : List ℕ → Answered ThirteenState → ℕ
 start_number area started = cond (eqb (length area) thirteen_length) started.answer 1
 
 -- the area after it: one of another size stays (RULES 15.4, 15.12)
-abbrev pub start_area : List ℕ → ThirteenStarted → List ℕ
+abbrev pub start_area : List ℕ → Answered ThirteenState → List ℕ
 start_area area started = cond (eqb (length area) thirteen_length) (area_after area started.answer started.state) area
 
 -- ---- soundness
@@ -35,7 +34,7 @@ sound_in area = is_thirteen_area area && sound_of (state_in area)
 -- ---- samples
 
 -- a sample on the area's state, where the bytes hold one
-abbrev pub sampled : List ℕ → Sample → List ℕ → ThirteenSampled
+abbrev pub sampled : List ℕ → Sample → List ℕ → Answered ThirteenState
 sampled area x cells = sample_of (state_in area) x cells
 
 -- its answer; 1 where there is none (RULES 15.5, 15.12)
@@ -53,7 +52,7 @@ abbrev pub error_stored : List ℕ → ℕ → ℕ → List ℕ
 error_stored area answer error = cond (ltb 0 answer && leb answer 3) area (set area 0 error)
 
 -- a transaction on the area's state, where the bytes hold one
-abbrev pub transacted : List ℕ → Bool → List ℕ → List ℕ → ThirteenTransacted
+abbrev pub transacted : List ℕ → Bool → List ℕ → List ℕ → Transacted ThirteenState
 transacted area read bytes room = transact_of (state_in area) read bytes (length room)
 
 -- its answer with the reply's length above it; 1 where there is none (RULES 12.3, 15.12)

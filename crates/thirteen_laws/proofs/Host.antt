@@ -20,7 +20,8 @@ use Rattle.thirteen_laws.specs.Events.{result, answer}
 use Rattle.thirteen_laws.specs.Promises.{NoWriteServed, HostChangesNothing, CodeLeft, RefusedCall, RefusedRoom, RefusedSample}
 use Rattle.thirteen_pack.specs.Sample.{sampled_of, sample_of}
 use Rattle.thirteen_pack.specs.Sound.{sound_of}
-use Rattle.thirteen_pack.specs.declared.ThirteenSampled.{ThirteenSampled}
+use Rattle.pack.specs.declared.Answered.{Answered}
+use Rattle.thirteen_pack.specs.declared.ThirteenState.{ThirteenState}
 
 abbrev Refuses : ℕ → Type 0
 Refuses n = served n ≡ false
@@ -58,7 +59,7 @@ pub refused-sample : RefusedSample
 unfolding sample_of
 refused-sample s x cells n = go (sound_of s) n
   where
-    served-by : ThirteenSampled
+    served-by : Answered ThirteenState
     served-by = record { answer = 0; state = record { error = s.error; pack = sampled_of s.pack x cells } }
 
     go : (b : Bool) → ((cond (not b) (record { answer = 1; state = s }) served-by).answer ≡ 0 → ⊥) → (cond (not b) (record { answer = 1; state = s }) served-by).state ≡ s

@@ -44,7 +44,7 @@ use Rattle.thirteen_pack.specs.Sample.{sampled_of}
 use Rattle.thirteen_pack.specs.SetUp.{pack_of, zero_state, set_up_of}
 use Rattle.thirteen_pack.specs.Sound.{sound_of}
 use Rattle.thirteen_pack.specs.declared.Thirteen.{Thirteen}
-use Rattle.thirteen_pack.specs.declared.ThirteenStarted.{ThirteenStarted}
+use Rattle.pack.specs.declared.Answered.{Answered}
 use Rattle.thirteen_pack.specs.declared.ThirteenState.{ThirteenState}
 use Rattle.thirteen_words.specs.Word.{given_of}
 use Rattle.words.specs.Words.{below}
@@ -105,7 +105,7 @@ set_up_pack : (u : Setup) (health : ℕ) (first : Sample) (cells : List ℕ) →
 unfolding set_up_of
 set_up_pack u health first cells = go (start.set_up_refused u)
   where
-    served-by : ThirteenStarted
+    served-by : Answered ThirteenState
     served-by = record { answer = 0; state = record { error = 0; pack = pack_of u health first cells } }
 
     go : (b : Bool) → (cond b (record { answer = 11; state = zero_state }) served-by).answer ≡ 0

@@ -30,20 +30,19 @@ use Rattle.thirteen_pack.specs.Fits.{CellsFit, Fits}
 use Rattle.thirteen_pack.specs.Sample.{sampled_of, sample_of}
 use Rattle.thirteen_pack.specs.SetUp.{pack_of, zero_state, set_up_of}
 use Rattle.thirteen_pack.specs.Sound.{pack_sound, sound_of}
-use Rattle.thirteen_pack.specs.declared.ThirteenSampled.{ThirteenSampled}
-use Rattle.thirteen_pack.specs.declared.ThirteenStarted.{ThirteenStarted}
+use Rattle.pack.specs.declared.Answered.{Answered}
 use Rattle.thirteen_pack.specs.declared.ThirteenState.{ThirteenState}
 
 -- ---- set-up
 
-abbrev refusal : ThirteenStarted
+abbrev refusal : Answered ThirteenState
 refusal = record { answer = 11; state = zero_state }
 
-abbrev start : Setup → ℕ → Sample → List ℕ → ThirteenStarted
+abbrev start : Setup → ℕ → Sample → List ℕ → Answered ThirteenState
 start u health first cells = record { answer = 0; state = record { error = 0; pack = pack_of u health first cells } }
 
 -- what holds of both outcomes holds of set-up's
-started : (P : ThirteenStarted → Type 0) (u : Setup) (health : ℕ) (first : Sample) (cells : List ℕ) → P refusal
+started : (P : Answered ThirteenState → Type 0) (u : Setup) (health : ℕ) (first : Sample) (cells : List ℕ) → P refusal
     → (set_up_refused u ≡ false → P (start u health first cells)) → P (set_up_of u health first cells)
 unfolding set_up_of
 started P u health first cells f g = go (set_up_refused u) refl
@@ -81,7 +80,7 @@ served_or_zero u health first cells = started (λ r. (r.answer ≡ 0) ⊎ (r ≡
 -- ---- events
 
 -- a sample gives 1 and the state as it was, or 0 and goes on
-sampled : (P : ThirteenSampled → Type 0) (s : ThirteenState) (x : Sample) (cells : List ℕ) → P (record { answer = 1; state = s })
+sampled : (P : Answered ThirteenState → Type 0) (s : ThirteenState) (x : Sample) (cells : List ℕ) → P (record { answer = 1; state = s })
     → (sound_of s ≡ true → P (record { answer = 0; state = record { error = s.error; pack = sampled_of s.pack x cells } })) → P (sample_of s x cells)
 unfolding sample_of
 sampled P s x cells f g = go (sound_of s) refl

@@ -9,7 +9,7 @@ use Rattle.frame_laws.specs.Requests.{WriteBytes}
 use Rattle.pack.specs.Fits.{SampleFits}
 use Rattle.pack.specs.declared.Sample.{Sample}
 use Rattle.thirteen.specs.Transact.{thirteen_side, transact_answer, transact_reply, transact_of}
-use Rattle.thirteen.specs.declared.ThirteenTransacted.{ThirteenTransacted}
+use Rattle.commands.specs.declared.Transacted.{Transacted}
 use Rattle.thirteen_pack.specs.Fits.{CellsFit, ThirteenFits}
 use Rattle.thirteen_pack.specs.Sample.{sample_of}
 use Rattle.thirteen_pack.specs.declared.ThirteenState.{ThirteenState}
@@ -22,7 +22,7 @@ pub record Call : Type 0 where
   pub bytes : List ℕ
   pub room : ℕ
 
-abbrev pub result : ThirteenState → Call → ThirteenTransacted
+abbrev pub result : ThirteenState → Call → Transacted ThirteenState
 result s c = transact_of s c.read c.bytes c.room
 
 abbrev pub answer : ThirteenState → Call → ℕ

@@ -10,7 +10,7 @@ use Rattle.tank.specs.Charge.{charge_after}
 use Rattle.thirteen_pack.specs.Sound.{sound_of}
 use Rattle.thirteen_pack.specs.declared.Level.{Level}
 use Rattle.thirteen_pack.specs.declared.Thirteen.{Thirteen}
-use Rattle.thirteen_pack.specs.declared.ThirteenSampled.{ThirteenSampled}
+use Rattle.pack.specs.declared.Answered.{Answered}
 use Rattle.thirteen_pack.specs.declared.ThirteenState.{ThirteenState}
 
 -- a sample adds current × elapsed to the charge, held between 0 and full, which stays; then bit 4 (RULES 6.23, 7.3, 15.5)
@@ -34,7 +34,7 @@ sampled_of p x cells =
     }
 
 -- 1: state isn't sound, and nothing changes; else 0, and the error code stays (RULES 1.1, 2.7, 15.5)
-unfoldable pub sample_of : ThirteenState → Sample → List ℕ → ThirteenSampled
+unfoldable pub sample_of : ThirteenState → Sample → List ℕ → Answered ThirteenState
 sample_of s x cells =
     cond (not (sound_of s)) (record { answer = 1; state = s })
     (record { answer = 0; state = record { error = s.error; pack = sampled_of s.pack x cells } })

@@ -10,7 +10,7 @@ use Rattle.start.specs.declared.Setup.{Setup}
 use Rattle.thirteen_pack.specs.declared.Fixed.{Fixed}
 use Rattle.thirteen_pack.specs.declared.Level.{Level}
 use Rattle.thirteen_pack.specs.declared.Thirteen.{Thirteen}
-use Rattle.thirteen_pack.specs.declared.ThirteenStarted.{ThirteenStarted}
+use Rattle.pack.specs.declared.Answered.{Answered}
 use Rattle.thirteen_pack.specs.declared.ThirteenState.{ThirteenState}
 
 -- what set-up fixes, the state of health beside the pack's own (RULES 15.4)
@@ -47,7 +47,7 @@ zero_state =
     }
 
 -- refused as the pack's set-up is: 11 and the all-zero state; else 0 and a state with error code 0 (RULES 1.11, 15.4)
-unfoldable pub set_up_of : Setup → ℕ → Sample → List ℕ → ThirteenStarted
+unfoldable pub set_up_of : Setup → ℕ → Sample → List ℕ → Answered ThirteenState
 set_up_of u health first cells =
     cond (set_up_refused u) (record { answer = 11; state = zero_state })
     (record { answer = 0; state = record { error = 0; pack = pack_of u health first cells } })

@@ -8,7 +8,7 @@ ghost use Rattle.thirteen_pack.specs.Sample.{level_after, sampled_of, sample_of}
 ghost use Rattle.thirteen_pack.specs.SetUp.{level_of, pack_of, zero_state, set_up_of};
 ghost use Rattle.thirteen_pack.specs.Sound.{fixed_sound, level_sound, sound_of};
 
-use pack::{Latest, Sample};
+use pack::{Answered, Latest, Sample};
 use recent::Recent;
 use start::Setup;
 
@@ -43,18 +43,6 @@ pub struct Thirteen {
 pub struct ThirteenState {
     pub error: u8,
     pub pack: Thirteen,
-}
-
-#[derive(Clone, Copy)]
-pub struct ThirteenStarted {
-    pub answer: u8,
-    pub state: ThirteenState,
-}
-
-#[derive(Clone, Copy)]
-pub struct ThirteenSampled {
-    pub answer: u8,
-    pub state: ThirteenState,
 }
 
 // ---- sound
@@ -154,12 +142,12 @@ fn pack_of(u: Setup, health: u16, first: Sample, cells: [u16; 13]) -> Thirteen
 }
 
 // The pack's set-up, with the cells and the state of health beside it: answer 0 and a sound state, or 11 and the all-zero state.
-pub fn set_up(u: Setup, health: u16, first: Sample, cells: [u16; 13]) -> ThirteenStarted
+pub fn set_up(u: Setup, health: u16, first: Sample, cells: [u16; 13]) -> Answered<ThirteenState>
     ensures { result ≡ set_up_of u health first cells }
 {
     if start::refused(u) {
         let none = zero();
-        return ThirteenStarted {
+        return Answered {
             answer: 11,
             state: none,
         };
@@ -169,7 +157,7 @@ pub fn set_up(u: Setup, health: u16, first: Sample, cells: [u16; 13]) -> Thirtee
         error: 0,
         pack: pack,
     };
-    ThirteenStarted {
+    Answered {
         answer: 0,
         state: state,
     }
@@ -213,11 +201,11 @@ fn sampled(p: Thirteen, x: Sample, cells: [u16; 13]) -> Thirteen
 }
 
 // A sample with the cells that it brings: answer 0, or 1 with nothing changed.
-pub fn sample(s: ThirteenState, x: Sample, cells: [u16; 13]) -> ThirteenSampled
+pub fn sample(s: ThirteenState, x: Sample, cells: [u16; 13]) -> Answered<ThirteenState>
     ensures { result ≡ sample_of s x cells }
 {
     if !sound(s) {
-        return ThirteenSampled {
+        return Answered {
             answer: 1,
             state: s,
         };
@@ -227,7 +215,7 @@ pub fn sample(s: ThirteenState, x: Sample, cells: [u16; 13]) -> ThirteenSampled
         error: s.error,
         pack: pack,
     };
-    ThirteenSampled {
+    Answered {
         answer: 0,
         state: state,
     }

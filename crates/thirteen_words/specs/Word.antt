@@ -6,14 +6,14 @@ use Rattle.std.specs.Int.{w16}
 use Rattle.std.proofs.Common.{to_z, of_z}
 use Rattle.capacity.specs.Capacity.{percent_of}
 use Rattle.commands.specs.Commands.{from}
-use Rattle.minutes.specs.Minutes.{time_of, given_word, given_answer}
+use Rattle.minutes.specs.Minutes.{time_of, given_word, given_answer, given_shown}
 use Rattle.minutes.specs.declared.Given.{Given}
 use Rattle.minutes.specs.declared.Given.TheVariants.{Word, Until}
 use Rattle.minutes.specs.declared.Time.{Time}
 use Rattle.recent.specs.Recent.{average_of}
 use Rattle.thirteen_pack.specs.declared.Thirteen.{Thirteen}
 use Rattle.thirteen_status.specs.Status.{status_of}
-use Rattle.thirteen_words.specs.declared.ThirteenShown.{ThirteenShown}
+use Rattle.minutes.specs.declared.Shown.{Shown}
 use Rattle.words.specs.Words.{above, below, size_of}
 
 -- 09: in 10 mV, rounded down (RULES 15.6)
@@ -71,5 +71,5 @@ abbrev pub word_answer : Thirteen → ℕ → ℕ
 word_answer p command = given_answer (given_of p command)
 
 -- the answer and the word
-abbrev pub shown_of : Thirteen → ℕ → ThirteenShown
-shown_of p command = record { answer = word_answer p command; word = word_of p command }
+abbrev pub shown_of : Thirteen → ℕ → Shown
+shown_of p command = given_shown (given_of p command)

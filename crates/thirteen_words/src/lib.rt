@@ -7,15 +7,8 @@ ghost use Rattle.thirteen_pack.specs.Facts.{SoundFacts};
 ghost use Rattle.thirteen_words.specs.Cells.{cell_bytes};
 ghost use Rattle.thirteen_words.specs.Word.{current_word, remaining, run_time_to_empty, average_time_to_full, cell_of, given_of, shown_of};
 
-use minutes::{Given, Time};
+use minutes::{Given, Shown, Time};
 use thirteen_pack::Thirteen;
-
-// What a word read gives: its answer, 0 or 10, and its word.
-#[derive(Clone, Copy)]
-pub struct ThirteenShown {
-    pub answer: u8,
-    pub word: u16,
-}
 
 // 09: in 10 mV, rounded down.
 fn voltage_word(voltage: u16) -> u16
@@ -99,17 +92,11 @@ fn register(p: Thirteen, command: u8) -> Given
 }
 
 // The answer and the word of a read-word command.
-pub fn show(p: Thirteen, command: u8) -> ThirteenShown
+pub fn show(p: Thirteen, command: u8) -> Shown
     requires { SoundFacts p }
     ensures { result ≡ shown_of p command }
 {
-    let given = register(p, command);
-    let answer = minutes::given_answer(given);
-    let word = minutes::given_word(given);
-    ThirteenShown {
-        answer: answer,
-        word: word,
-    }
+    Shown::from(register(p, command))
 }
 
 // ---- F1

@@ -3,7 +3,7 @@
 use mathlib.Core.Path.{ap, ◌∙◌}
 use borrow.Author.Rules.{rules}
 use Rattle.frame.specs.Transactions.{reply_of, word_body}
-use Rattle.gauge.specs.declared.Shown.{Shown}
+use Rattle.minutes.specs.declared.Shown.{Shown}
 use Rattle.rooms.specs.Rooms.{placed}
 use Rattle.bus.proofs.serve_word.Goals as goal
 

@@ -6,7 +6,8 @@ use lib.ListN.{length}
 use Rattle.area.proofs.Whole.{area_size}
 use Rattle.calls.proofs.Areas.{an_area, transact_most, transact-none, transact-done}
 use Rattle.calls.proofs.Stores.{kept}
-use Rattle.bus.specs.declared.Transacted.{Transacted}
+use Rattle.commands.specs.declared.Transacted.{Transacted}
+use Rattle.pack.specs.declared.State.{State}
 use Rattle.calls.proofs.transact.Goals as goal
 
 pub returns-then-held-ne0 : goal.returns-then-held-ne0
@@ -23,7 +24,7 @@ keep_transacted-requires c =
 pub pack_up-requires : goal.pack_up-requires
 pack_up-requires c =
     let a = c.args in
-    let e = ap (λ (q : Transacted). q.length) c.transact-done.ensures.result in
+    let e = ap (λ (q : Transacted State). q.length) c.transact-done.ensures.result in
     omega (arith, e, transact_most c.load-held.result.state a.service.now a.factory.now a.read a.bytes.now (length a.room.now))
 
 pub returns : goal.returns

@@ -6,7 +6,8 @@ use Rattle.snatchblock.proofs.Handed.{same_sample}
 use Rattle.start.specs.declared.Setup.{Setup}
 use Rattle.thirteen_calls.specs.Calls.{start_number, start_area}
 use Rattle.thirteen_pack.specs.SetUp.{set_up_of}
-use Rattle.thirteen_pack.specs.declared.ThirteenStarted.{ThirteenStarted}
+use Rattle.pack.specs.declared.Answered.{Answered}
+use Rattle.thirteen_pack.specs.declared.ThirteenState.{ThirteenState}
 use Rattle.snatchblock.proofs.snatchblock_thirteen_set_up.Goals as goal
 
 pub returns : goal.returns
@@ -17,6 +18,6 @@ returns c =
     let started = ap₂ (λ (u : Setup) (x : Sample). set_up_of u a.StateOfHealth x a.cells.now) setup same in
     let done = c.set_up.ensures in
     record {
-      value = done.value ∙ ap (λ (t : ThirteenStarted). start_number a.area.now t) started;
-      area_after = done.area_after ∙ ap (λ (t : ThirteenStarted). start_area a.area.now t) started;
+      value = done.value ∙ ap (λ (t : Answered ThirteenState). start_number a.area.now t) started;
+      area_after = done.area_after ∙ ap (λ (t : Answered ThirteenState). start_area a.area.now t) started;
     }

@@ -4,7 +4,8 @@ use mathlib.Core.Path.{refl, sym, ap, ◌∙◌}
 use native.Mathlib.Omega.{arith}
 use Rattle.thirteen_area.proofs.Whole.{area_size}
 use Rattle.thirteen_calls.proofs.Areas.{an_area, sample_count, sample-none, sample-done}
-use Rattle.thirteen_pack.specs.declared.ThirteenSampled.{ThirteenSampled}
+use Rattle.pack.specs.declared.Answered.{Answered}
+use Rattle.thirteen_pack.specs.declared.ThirteenState.{ThirteenState}
 use Rattle.thirteen_calls.proofs.sample.Goals as goal
 
 pub returns-then-held-ne0 : goal.returns-then-held-ne0
@@ -20,8 +21,8 @@ keep-requires c =
     let out = c.sample-out.ensures in (
       area_size a.area.now (an_area a.area.now held.ensures.is c.if-held-ne0.false).0,
       λ z.
-          let count = sample_count held.result.state a.x a.cells (sym (ap (λ (q : ThirteenSampled). q.answer) out) ∙ z) in
-          omega (arith, ap (λ (q : ThirteenSampled). q.state.pack.recent.count) out, count),
+          let count = sample_count held.result.state a.x a.cells (sym (ap (λ (q : Answered ThirteenState). q.answer) out) ∙ z) in
+          omega (arith, ap (λ (q : Answered ThirteenState). q.state.pack.recent.count) out, count),
     )
 
 pub returns : goal.returns

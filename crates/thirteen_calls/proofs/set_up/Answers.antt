@@ -4,7 +4,8 @@ use borrow.Author.Tests.{ne_eqb}
 use mathlib.Core.Path.{refl, ap}
 use native.Mathlib.Omega.{arith}
 use Rattle.thirteen_calls.proofs.Areas.{start_most, start_done}
-use Rattle.thirteen_pack.specs.declared.ThirteenStarted.{ThirteenStarted}
+use Rattle.pack.specs.declared.Answered.{Answered}
+use Rattle.thirteen_pack.specs.declared.ThirteenState.{ThirteenState}
 use Rattle.thirteen_calls.proofs.set_up.Goals as goal
 
 pub returns-then-area-ne-LENGTH : goal.returns-then-area-ne-LENGTH
@@ -13,7 +14,7 @@ returns-then-area-ne-LENGTH c = let other = ne_eqb _ _ c.if-area-ne-LENGTH.true 
 pub keep-requires : goal.keep-requires
 keep-requires c =
     let a = c.args in
-    let count = ap (λ (t : ThirteenStarted). t.state.pack.recent.count) c.set_up-started.ensures in
+    let count = ap (λ (t : Answered ThirteenState). t.state.pack.recent.count) c.set_up-started.ensures in
     (c.if-area-ne-LENGTH.false, λ z. omega (arith, count, start_most a.u a.health a.first a.cells))
 
 pub returns : goal.returns

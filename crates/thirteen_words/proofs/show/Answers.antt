@@ -4,4 +4,4 @@ use borrow.Author.Rules.{rules}
 use Rattle.thirteen_words.proofs.show.Goals as goal
 
 pub returns : goal.returns
-returns c = simp (c.given_word-word.ensures, c.given_answer-answer.ensures, c.register-given.ensures)
+returns c = simp (c.from.ensures, c.register.ensures)
