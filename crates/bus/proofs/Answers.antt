@@ -1,19 +1,15 @@
 -- What a transaction gives, by its answer and by its request.
 -- Assumes nothing.
-use Prim.Native.Nat.{ℕ, ◌<◌, ◌≤◌}
+use Prim.Native.Nat.{ℕ, ◌≤◌}
 use mathlib.Core.Bool.{Bool, true, false, cond}
 use mathlib.Core.List.{List, []}
 use mathlib.Core.Path.{◌≡◌, refl, ap, ap₂, sym, ◌∙◌}
 use lib.ListN.{length}
 use Rattle.bus.specs.Transact.{pack_side, pack_after, outcome, asked, request_given, transact_answer, transact_reply, transact_of, reply_room}
 use Rattle.commands.proofs.Answers as commands
-use Rattle.commands.specs.Answers.{request_answer, served, side_reply, row_reply}
-use Rattle.commands.specs.declared.Kind.TheVariants.{ReadOnly}
-use Rattle.frame.specs.Transactions.{reply_of, word_body}
+use Rattle.commands.specs.Answers.{request_answer, served, side_reply}
 use Rattle.frame.specs.declared.Request.{Request}
 use Rattle.frame.specs.declared.Request.TheVariants.{Refused, Read, Write}
-use Rattle.gauge.specs.Word.{given_of, word_of}
-use Rattle.minutes.proofs.Laws.{zero_or_ten}
 use Rattle.pack.specs.Sound.{sound_of}
 use Rattle.pack.specs.declared.Pack.{Pack}
 use Rattle.pack.specs.declared.State.{State}
@@ -26,10 +22,6 @@ module _ (s : State) (service factory : List ℕ) (read : Bool) (bytes : List �
   pub unsound : sound_of s ≡ false → transact_answer s service factory read bytes room ≡ 1
   unfolding transact_answer
   unsound = commands.unsound (pack_side s service factory) (asked read bytes) room
-
-  pub small-room : sound_of s ≡ true → room < 34 → transact_answer s service factory read bytes room ≡ 2
-  unfolding transact_answer
-  small-room = commands.small-room (pack_side s service factory) (asked read bytes) room
 
 -- ---- a refusal
 
@@ -74,26 +66,6 @@ module _ (s : State) (service factory : List ℕ) (read : Bool) (bytes : List �
       commands.past_two (pack_side s service factory) (asked read bytes) room sound fits
       ∙ ap (λ (q : Request). request_answer (pack_side s service factory) q) e
 
-  pub by-reply : transact_reply s service factory read bytes room ≡ side_reply (pack_side s service factory) bytes request number
-  unfolding transact_reply
-  by-reply = ap₂ (λ (a : ℕ) (q : Request). side_reply (pack_side s service factory) bytes q a) by_answer e
-
   pub by-outcome : transact_of s service factory read bytes room ≡ request_given s service factory bytes request number
   unfolding transact_of
   by-outcome = ap₂ (λ (a : ℕ) (q : Request). request_given s service factory bytes q a) by_answer e
-
--- what a request is given past answer 2, with the room
-pub by_request : (s : State) (service factory : List ℕ) (read : Bool) (bytes room : List ℕ) (request : Request) → sound_of s ≡ true → 34 ≤ length room → asked read bytes ≡ request
-    → (request_given s service factory bytes request (request_answer (pack_side s service factory) request) ≡ transact_of s service factory read bytes (length room))
-    × (placed (side_reply (pack_side s service factory) bytes request (request_answer (pack_side s service factory) request)) room ≡ reply_room s service factory read bytes room)
-unfolding reply_room
-by_request s service factory read bytes room request sound fits e = (
-  sym (by-outcome s service factory read bytes (length room) request sound fits e),
-  ap (λ (x : List ℕ). placed x room) (sym (by-reply s service factory read bytes (length room) request sound fits e)),
-)
-
--- ---- a word read is served, with answer 0 or 10
-
-pub word_reply : (s : State) (service factory bytes : List ℕ) (command : ℕ)
-    → reply_of bytes (word_body (word_of s command)) ≡ row_reply (pack_side s service factory) bytes command ReadOnly
-word_reply s service factory bytes command = commands.served_reply (zero_or_ten (given_of s command)) (reply_of bytes (word_body (word_of s command)))

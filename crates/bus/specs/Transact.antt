@@ -1,10 +1,10 @@
 -- Document 01, Answer numbers and Transactions: what every byte string is answered, the reply, and the state left.
 -- Assumes nothing.
-use Rattle.std.specs.Prelude.{ℕ, Bool, false, cond, List, length}
+use Rattle.std.specs.Prelude.{ℕ, Bool, false, cond, List, length, Option, Some, None}
 use Rattle.commands.specs.declared.Transacted.{Transacted}
-use Rattle.commands.specs.Answers.{Side, code_after, read_answer, side_answer, served, side_reply, row_reply}
-use Rattle.commands.specs.declared.Kind.{Kind}
+use Rattle.commands.specs.Answers.{Side, code_after, side_answer, served, side_reply}
 use Rattle.commands.specs.Commands.{kind_of}
+use Rattle.device.specs.declared.Written.{Written}
 use Rattle.frame.specs.Transactions.{request_of, block_body}
 use Rattle.frame.specs.declared.Request.{Request}
 use Rattle.frame.specs.declared.Request.TheVariants.{Refused, Read, Write}
@@ -12,6 +12,7 @@ use Rattle.gauge.specs.Word.{word_of, word_answer}
 use Rattle.pack.specs.Sound.{sound_of}
 use Rattle.pack.specs.declared.Pack.{Pack}
 use Rattle.pack.specs.declared.State.{State}
+use Rattle.refusals.specs.Numbers.{answer_of}
 use Rattle.rooms.specs.Rooms.{placed}
 use Rattle.sheet.specs.Block.{block_of, block_answer}
 use Rattle.written.specs.Written.{pack_written}
@@ -30,7 +31,7 @@ pack_side s service factory =
       sound = sound_of s;
       word_answer = λ command. word_answer s command;
       word = λ command. word_of s command;
-      block_answer = λ command. block_answer service factory;
+      block_answer = λ command. answer_of (block_answer service factory);
       block = λ command. block_body (block_of service factory command);
     }
 
@@ -41,6 +42,15 @@ abbrev pub pack_after : Pack → Request → ℕ → Pack
 pack_after p (Refused n) answer = p
 pack_after p (Read command) answer = p
 pack_after p (Write command word checked) answer = cond (served answer) (pack_written p command word) p
+
+-- the same, by the write that is served
+abbrev pub pack_left : Pack → Option Written → Pack
+pack_left p None = p
+pack_left p (Some write) = pack_written p write.command write.word
+
+-- the state with the error code that the answer leaves (RULES 2.6)
+abbrev pub left_by : State → ℕ → Option Written → State
+left_by s answer write = record { error = code_after answer s.error; pack = pack_left s.pack write }
 
 -- ---- the entry
 
@@ -66,11 +76,6 @@ transact_reply s service factory read bytes room =
 abbrev pub request_given : State → List ℕ → List ℕ → List ℕ → Request → ℕ → Transacted State
 request_given s service factory bytes request answer =
     outcome s answer (pack_after s.pack request answer) (length (side_reply (pack_side s service factory) bytes request answer))
-
--- what a read is given where its answer is that of its command's row
-abbrev pub row_given : State → List ℕ → List ℕ → List ℕ → ℕ → Kind → Transacted State
-row_given s service factory bytes command kind =
-    outcome s (read_answer (pack_side s service factory) command kind) s.pack (length (row_reply (pack_side s service factory) bytes command kind))
 
 -- what the driver's bytes and mark are given (RULES 2)
 unfoldable pub transact_of : State → List ℕ → List ℕ → Bool → List ℕ → ℕ → Transacted State

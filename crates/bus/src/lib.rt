@@ -1,114 +1,84 @@
 // Transactions: the answer to every byte string that the driver gives.
 #![tactic(auto)]
 
-ghost use Rattle.std.specs.Prelude.{◌≡◌, true, cond, ◌≤◌, length};
-ghost use Rattle.bus.specs.Transact.{pack_side, outcome, row_given, transact_of, reply_room};
-ghost use Rattle.commands.specs.Answers.{write_answer, served, row_reply};
-ghost use Rattle.commands.specs.Commands.{kind_of};
-ghost use Rattle.commands.specs.declared.Kind.TheVariants.{Block};
-ghost use Rattle.frame.specs.Transactions.{reply_of, word_body};
-ghost use Rattle.gauge.specs.Word.{word_of, word_answer};
-ghost use Rattle.pack.specs.Sound.{sound_of};
-ghost use Rattle.rooms.specs.Rooms.{placed};
-ghost use Rattle.written.specs.Written.{pack_written};
+ghost use Rattle.std.specs.Prelude.{◌≡◌, length};
+ghost use Rattle.bus.specs.Transact.{pack_side, pack_left, left_by, transact_of, reply_room};
 
 use commands::{Kind, Transacted};
-use frame::Request;
+use device::{Device, Replied, Written};
+use minutes::Shown;
 use pack::{Pack, State};
 
-// The answer, the state with the error code that it leaves, and the number of reply bytes.
-fn answered(s: State, answer: u8, pack: Pack, length: usize) -> Transacted<State>
-    ensures { result ≡ outcome s answer pack length }
-{
-    let error = commands::code_after(answer, s.error);
-    let state = State {
-        error: error,
-        pack: pack,
-    };
-    Transacted {
-        answer: answer,
-        state: state,
-        length: length,
-    }
-}
-
-// A call that changes nothing but the error code.
-fn unchanged(s: State, answer: u8, length: usize) -> Transacted<State>
-    ensures { result ≡ outcome s answer s.pack length }
-{
-    let pack = s.pack;
-    answered(s, answer, pack, length)
-}
-
-// A word read, with the answer that comes with the word.
-fn serve_word(s: State, command: u8, bytes: &[u8], room: &mut [u8]) -> Transacted<State>
-    requires { (sound_of s ≡ true) × (34 ≤ length room.old) }
-    ensures result { result ≡ outcome s (word_answer s command) s.pack (length (reply_of bytes.now (word_body (word_of s command)))) }
-    ensures memory { room.new ≡ placed (reply_of bytes.now (word_body (word_of s command))) room.old }
-{
-    let shown = gauge::show(s, command);
-    let length = frame::put_word(room, bytes, shown.word);
-    unchanged(s, shown.answer, length)
-}
-
-// A block read: 9 where a sheet is bad.
-fn serve_block<'a>(
-    s: State,
+// The pack as a device on the bus, with its service and its factory sheet.
+#[derive(Clone, Copy)]
+struct OnBus<'a> {
+    state: State,
     service: &'a [u8],
     factory: &'a [u8],
-    command: u8,
-    bytes: &[u8],
-    room: &mut [u8],
-) -> Transacted<State>
-    requires { 34 ≤ length room.old }
-    ensures result { result ≡ row_given s service.now factory.now bytes.now command Block }
-    ensures memory { room.new ≡ placed (row_reply (pack_side s service.now factory.now) bytes.now command Block) room.old }
-{
-    let answer = sheet::block_answer(service, factory);
-    if answer != 0 {
-        return unchanged(s, answer, 0);
-    }
-    let name = sheet::block(service, factory, command);
-    let length = frame::put_block(room, bytes, name);
-    unchanged(s, 0, length)
 }
 
-// A read, by its command's row.
-fn serve_read<'a>(
-    s: State,
-    service: &'a [u8],
-    factory: &'a [u8],
-    command: u8,
-    bytes: &[u8],
-    room: &mut [u8],
-) -> Transacted<State>
-    requires { (sound_of s ≡ true) × (34 ≤ length room.old) }
-    ensures result { result ≡ row_given s service.now factory.now bytes.now command (kind_of command) }
-    ensures memory { room.new ≡ placed (row_reply (pack_side s service.now factory.now) bytes.now command (kind_of command)) room.old }
-{
-    match commands::row(command) {
-        Kind::Reserved => unchanged(s, 6, 0),
-        Kind::Optional => unchanged(s, 7, 0),
-        Kind::WriteOnly => unchanged(s, 8, 0),
-        Kind::Block => serve_block(s, service, factory, command, bytes, room),
-        Kind::ReadOnly => serve_word(s, command, bytes, room),
-        Kind::ReadWrite => serve_word(s, command, bytes, room),
+impl<'a> Device for OnBus<'a> {
+    ghost side = { λ pack. pack_side pack.state pack.service.now pack.factory.now };
+
+    fn address(&self) -> u8 {
+        0x16
+    }
+
+    fn must_check(&self) -> bool {
+        false
+    }
+
+    fn least(&self) -> usize {
+        34
+    }
+
+    fn is_sound(&self) -> bool {
+        pack::sound(self.state)
+    }
+
+    fn kind(&self, command: u8) -> Kind {
+        commands::row(command)
+    }
+
+    fn word(&self, command: u8) -> Shown {
+        gauge::show(self.state, command)
+    }
+
+    // A block name, or the refusal of a bad sheet: no sheet is looked at unless a block is read.
+    fn put_block(&self, command: u8, request: &[u8], room: &mut [u8]) -> Replied {
+        if let Err(reason) = sheet::block_answer(self.service, self.factory) {
+            return Replied {
+                answer: u8::from(reason),
+                length: 0,
+            };
+        }
+        let name = sheet::block(self.service, self.factory, command);
+        let length = frame::put_block(room, request, name);
+        Replied { answer: 0, length }
     }
 }
 
-// A write, by its command's row.
-fn serve_write(s: State, command: u8, word: u16) -> Transacted<State>
-    ensures { result ≡ outcome s (write_answer (kind_of command)) (cond (served (write_answer (kind_of command))) (pack_written s.pack command word) s.pack) 0 }
+// Only a served write changes the pack.
+fn pack_left(p: Pack, write: Option<Written>) -> Pack
+    ensures { result ≡ pack_left p write }
 {
-    let refusal = commands::write_answer(commands::row(command));
-    if refusal != 0 {
-        return unchanged(s, refusal, 0);
+    match write {
+        Some(write) => written::pack_written(p, write.command, write.word),
+        None => p,
     }
-    let pack = written::pack_written(s.pack, command, word);
-    answered(s, 0, pack, 0)
 }
 
-// What the driver's bytes and mark are answered; no sheet is looked at unless a block is read.
+// What a transaction leaves: the error code of its answer, and the pack.
+fn left(s: State, answer: u8, write: Option<Written>) -> State
+    ensures { result ≡ left_by s answer write }
+{
+    State {
+        error: commands::code_after(answer, s.error),
+        pack: pack_left(s.pack, write),
+    }
+}
+
+// What the driver's bytes and mark are answered.
 pub fn transact<'a>(
     s: State,
     service: &'a [u8],
@@ -120,19 +90,15 @@ pub fn transact<'a>(
     ensures result { result ≡ transact_of s service.now factory.now read bytes.now (length room.old) }
     ensures memory { room.new ≡ reply_room s service.now factory.now read bytes.now room.old }
 {
-    if !pack::sound(s) {
-        return unchanged(s, 1, 0);
-    }
-    if room.len() < 34 {
-        return unchanged(s, 2, 0);
-    }
-    match frame::recognise(0x16, read, bytes) {
-        Request::Refused(answer) => unchanged(s, answer, 0),
-        Request::Read(command) => serve_read(s, service, factory, command, bytes, room),
-        Request::Write {
-            command,
-            word,
-            checked: _,
-        } => serve_write(s, command, word),
+    let on_bus = OnBus {
+        state: s,
+        service,
+        factory,
+    };
+    let done = device::transact(&on_bus, read, bytes, room);
+    Transacted {
+        answer: done.answer,
+        state: left(s, done.answer, done.write),
+        length: done.length,
     }
 }

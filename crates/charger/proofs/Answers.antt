@@ -16,16 +16,7 @@ use Rattle.frame.specs.declared.Request.{Request}
 use Rattle.frame.specs.declared.Request.TheVariants.{Refused, Read, Write}
 use Rattle.rooms.specs.Rooms.{placed}
 
--- ---- the answer
 
-module _ (s : Charger) (read : Bool) (bytes : List ℕ) (room : ℕ) where
-  pub unsound : sound_of s ≡ false → transact_answer s read bytes room ≡ 1
-  unfolding transact_answer
-  unsound = commands.unsound (charger_side s) (asked read bytes) room
-
-  pub small-room : sound_of s ≡ true → room < 3 → transact_answer s read bytes room ≡ 2
-  unfolding transact_answer
-  small-room = commands.small-room (charger_side s) (asked read bytes) room
 
 -- ---- a refusal
 
@@ -72,20 +63,6 @@ module _ (s : Charger) (read : Bool) (bytes : List ℕ) (room : ℕ) (request : 
   by_answer =
       commands.past_two (charger_side s) (asked read bytes) room sound fits ∙ ap (λ (q : Request). request_answer (charger_side s) q) e
 
-  pub by-reply : transact_reply s read bytes room ≡ side_reply (charger_side s) bytes request number
-  unfolding transact_reply
-  by-reply = ap₂ (λ (a : ℕ) (q : Request). side_reply (charger_side s) bytes q a) by_answer e
-
   pub by-outcome : transact_of s read bytes room ≡ request_given s bytes request number
   unfolding transact_of
   by-outcome = ap₂ (λ (a : ℕ) (q : Request). request_given s bytes q a) by_answer e
-
--- what a request is given past answer 2, with the room
-pub by_request : (s : Charger) (read : Bool) (bytes room : List ℕ) (request : Request) → sound_of s ≡ true → 3 ≤ length room → asked read bytes ≡ request
-    → (request_given s bytes request (request_answer (charger_side s) request) ≡ transact_of s read bytes (length room))
-    × (placed (side_reply (charger_side s) bytes request (request_answer (charger_side s) request)) room ≡ reply_room s read bytes room)
-unfolding reply_room
-by_request s read bytes room request sound fits e = (
-  sym (by-outcome s read bytes (length room) request sound fits e),
-  ap (λ (x : List ℕ). placed x room) (sym (by-reply s read bytes (length room) request sound fits e)),
-)

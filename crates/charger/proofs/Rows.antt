@@ -23,12 +23,3 @@ taken command e f = simp (e, f)
 pub neither : (command : ℕ) → is_shown command ≡ false → is_taken command ≡ false → charger_kind command ≡ Reserved
 unfolding charger_kind
 neither command e f = simp (e, f)
-
--- what a row is given, with the room
-pub by_row : (s : Charger) (bytes room : List ℕ) (command : ℕ) {kind : Kind} → charger_kind command ≡ kind
-    → (row_given s bytes command kind ≡ row_given s bytes command (charger_kind command))
-    × (placed (row_reply (charger_side s) bytes command kind) room ≡ placed (row_reply (charger_side s) bytes command (charger_kind command)) room)
-by_row s bytes room command k = (
-  ap (λ (q : Kind). row_given s bytes command q) (sym k),
-  ap (λ (q : Kind). placed (row_reply (charger_side s) bytes command q) room) (sym k),
-)

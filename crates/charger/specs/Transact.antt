@@ -6,8 +6,7 @@ use Rattle.charger.specs.Commands.{charger_kind}
 use Rattle.charger_written.specs.Written.{charger_written}
 use Rattle.charger_state.specs.declared.Charger.{Charger}
 use Rattle.commands.specs.declared.Transacted.{Transacted}
-use Rattle.commands.specs.Answers.{Side, read_answer, side_answer, served, side_reply, row_reply}
-use Rattle.commands.specs.declared.Kind.{Kind}
+use Rattle.commands.specs.Answers.{Side, side_answer, served, side_reply}
 use Rattle.device.specs.declared.Written.{Written}
 use Rattle.frame.specs.Transactions.{request_of}
 use Rattle.frame.specs.declared.Request.{Request}
@@ -60,10 +59,6 @@ transact_reply s read bytes room = side_reply (charger_side s) bytes (asked read
 -- what a request is given by its answer
 abbrev pub request_given : Charger → List ℕ → Request → ℕ → Transacted Charger
 request_given s bytes request answer = outcome answer (charger_after s request answer) (length (side_reply (charger_side s) bytes request answer))
-
--- what a read is given where its answer is that of its command's row
-abbrev pub row_given : Charger → List ℕ → ℕ → Kind → Transacted Charger
-row_given s bytes command kind = outcome (read_answer (charger_side s) command kind) s (length (row_reply (charger_side s) bytes command kind))
 
 -- what the driver's bytes and mark are given (RULES 2)
 unfoldable pub transact_of : Charger → Bool → List ℕ → ℕ → Transacted Charger

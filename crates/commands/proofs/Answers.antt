@@ -42,6 +42,10 @@ pub served_reply : {answer : ℕ} → (answer ≡ 0) ⊎ (answer ≡ 10) → (re
 served_reply (inl e) reply = ap (λ (n : ℕ). cond (served n) reply []) (sym e)
 served_reply (inr e) reply = ap (λ (n : ℕ). cond (served n) reply []) (sym e)
 
+pub is_served : {answer : ℕ} → (answer ≡ 0) ⊎ (answer ≡ 10) → served answer ≡ true
+is_served (inl e) = ap (λ (n : ℕ). served n) e
+is_served (inr e) = ap (λ (n : ℕ). served n) e
+
 -- what a read shows is a word of two bytes, or a block's bytes
 body_most : (d : Side) (most command : ℕ) (k : Kind) → 2 ≤ most → length (d.block command) ≤ most → length (read_body d command k) ≤ most
 body_most d most command ReadWrite w b = omega (arith, w)

@@ -1,16 +1,14 @@
 -- What a transaction gives, by its answer and by its request.
 -- Assumes nothing.
-use Prim.Native.Nat.{ℕ, ◌<◌, ◌≤◌}
-use mathlib.Core.Bool.{Bool, true, false}
+use Prim.Native.Nat.{ℕ}
+use mathlib.Core.Bool.{Bool, false}
 use mathlib.Core.List.{List, []}
 use mathlib.Core.Path.{◌≡◌, ap, ap₂, sym, ◌∙◌}
 use lib.ListN.{length}
 use Rattle.commands.proofs.Answers as commands
-use Rattle.commands.specs.Answers.{request_answer, served, side_answer, side_reply}
-use Rattle.frame.specs.declared.Request.{Request}
+use Rattle.commands.specs.Answers.{served, side_reply}
 use Rattle.rooms.specs.Rooms.{placed}
 use Rattle.thirteen.specs.Transact.{thirteen_side, outcome, asked, transact_answer, transact_reply, transact_of, reply_room}
-use Rattle.thirteen_pack.specs.Sound.{sound_of}
 use Rattle.thirteen_pack.specs.declared.ThirteenState.{ThirteenState}
 
 -- with its answer and its reply known, what it gives and the room are
@@ -35,22 +33,3 @@ refused_no_reply s read bytes room n e v =
 pub refusal : (s : ThirteenState) (read : Bool) (bytes room : List ℕ) (n : ℕ) → transact_answer s read bytes (length room) ≡ n → served n ≡ false
     → Gives s read bytes room n []
 refusal s read bytes room n e v = gives s read bytes room n [] e (refused_no_reply s read bytes (length room) n e v)
-
-module _ (s : ThirteenState) (read : Bool) (bytes : List ℕ) (room : ℕ) where
-  pub unsound : sound_of s ≡ false → transact_answer s read bytes room ≡ 1
-  unfolding transact_answer
-  unsound = commands.unsound (thirteen_side s) (asked read bytes) room
-
-  pub small-room : sound_of s ≡ true → room < 34 → transact_answer s read bytes room ≡ 2
-  unfolding transact_answer
-  small-room = commands.small-room (thirteen_side s) (asked read bytes) room
-
--- past answer 2, by the request
-pub by_request : (s : ThirteenState) (read : Bool) (bytes room : List ℕ) (request : Request) → sound_of s ≡ true → 34 ≤ length room → asked read bytes ≡ request
-    → Gives s read bytes room (request_answer (thirteen_side s) request) (side_reply (thirteen_side s) bytes request (request_answer (thirteen_side s) request))
-unfolding transact_answer transact_reply
-by_request s read bytes room request sound fits e =
-    gives s read bytes room _ _ answer (ap₂ (λ (a : ℕ) (q : Request). side_reply (thirteen_side s) bytes q a) answer e)
-  where
-    answer : side_answer (thirteen_side s) (asked read bytes) (length room) ≡ request_answer (thirteen_side s) request
-    answer = commands.past_two (thirteen_side s) (asked read bytes) (length room) sound fits ∙ ap (λ (q : Request). request_answer (thirteen_side s) q) e

@@ -1,8 +1,7 @@
 -- Request R-10: what every byte string is answered by the thirteen-cell pack, the reply, and the state left.
 -- Assumes nothing.
 use Rattle.std.specs.Prelude.{ℕ, Bool, true, List, length}
-use Rattle.commands.specs.Answers.{Side, code_after, read_answer, side_answer, side_reply, row_reply}
-use Rattle.commands.specs.declared.Kind.{Kind}
+use Rattle.commands.specs.Answers.{Side, code_after, side_answer, side_reply}
 use Rattle.frame.specs.Transactions.{request_of}
 use Rattle.frame.specs.declared.Request.{Request}
 use Rattle.rooms.specs.Rooms.{placed}
@@ -29,6 +28,10 @@ thirteen_side s =
       block = λ command. cell_bytes s.pack.cells;
     }
 
+-- the state with the error code that the answer leaves, all else as it was (RULES 15.11)
+abbrev pub left_by : ThirteenState → ℕ → ThirteenState
+left_by s answer = record { error = code_after answer s.error; pack = s.pack }
+
 -- the answer, the state with the error code that it leaves, all else as it was, and the number of reply bytes (RULES 15.11)
 abbrev pub outcome : ThirteenState → ℕ → ℕ → Transacted ThirteenState
 outcome s answer length =
@@ -45,11 +48,6 @@ transact_answer s read bytes room = side_answer (thirteen_side s) (asked read by
 -- the reply to them (RULES 5.4)
 unfoldable pub transact_reply : ThirteenState → Bool → List ℕ → ℕ → List ℕ
 transact_reply s read bytes room = side_reply (thirteen_side s) bytes (asked read bytes) (transact_answer s read bytes room)
-
--- what a read is given where its answer is that of its command's row
-abbrev pub row_given : ThirteenState → List ℕ → ℕ → Kind → Transacted ThirteenState
-row_given s bytes command kind =
-    outcome s (read_answer (thirteen_side s) command kind) (length (row_reply (thirteen_side s) bytes command kind))
 
 -- what the driver's bytes and mark are given (RULES 2, 15.11)
 unfoldable pub transact_of : ThirteenState → Bool → List ℕ → ℕ → Transacted ThirteenState

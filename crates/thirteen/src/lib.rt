@@ -1,18 +1,13 @@
 // The thirteen-cell pack's transactions: the answer to every byte string that the driver gives.
 #![tactic(auto)]
 
-ghost use Rattle.std.specs.Prelude.{◌≡◌, true, cond, not, ◌≤◌, length};
-ghost use Rattle.commands.specs.Answers.{write_answer, row_reply};
-ghost use Rattle.commands.specs.declared.Kind.TheVariants.{Block};
-ghost use Rattle.frame.specs.Transactions.{reply_of, word_body};
-ghost use Rattle.rooms.specs.Rooms.{placed};
+ghost use Rattle.std.specs.Prelude.{◌≡◌, length};
 ghost use Rattle.thirteen.specs.Commands.{is_word, is_not_built, thirteen_kind};
-ghost use Rattle.thirteen.specs.Transact.{thirteen_side, outcome, row_given, transact_of, reply_room};
-ghost use Rattle.thirteen_pack.specs.Sound.{sound_of};
-ghost use Rattle.thirteen_words.specs.Word.{word_of, word_answer};
+ghost use Rattle.thirteen.specs.Transact.{thirteen_side, left_by, transact_of, reply_room};
 
 use commands::{Kind, Transacted};
-use frame::Request;
+use device::{Device, Replied};
+use minutes::Shown;
 use thirteen_pack::ThirteenState;
 
 // ---- rows
@@ -20,21 +15,16 @@ use thirteen_pack::ThirteenState;
 fn is_word(command: u8) -> bool
     ensures { result ≡ is_word command }
 {
-    ((0x08 <= command) & (command <= 0x0A))
-        | (command == 0x0D)
-        | (command == 0x11)
-        | (command == 0x13)
-        | (command == 0x16)
-        | ((0x31 <= command) & (command <= 0x3D))
-        | (command == 0x4F)
+    matches!(
+        command,
+        0x08..=0x0A | 0x0D | 0x11 | 0x13 | 0x16 | 0x31..=0x3D | 0x4F
+    )
 }
 
 fn is_not_built(command: u8) -> bool
     ensures { result ≡ is_not_built command }
 {
-    (command == 0x00)
-        | ((0x80 <= command) & (command <= 0x81))
-        | ((0xA0 <= command) & (command <= 0xA2))
+    matches!(command, 0x00 | 0x80..=0x81 | 0xA0..=0xA2)
 }
 
 // A command's row.
@@ -55,90 +45,71 @@ fn row(command: u8) -> Kind
 
 // ---- transactions
 
-// The answer, the error code that it leaves and the number of reply bytes; nothing else changes.
-fn answered(s: ThirteenState, answer: u8, length: usize) -> Transacted<ThirteenState>
-    ensures { result ≡ outcome s answer length }
-{
-    let error = commands::code_after(answer, s.error);
-    let pack = s.pack;
-    let state = ThirteenState {
-        error: error,
-        pack: pack,
-    };
-    Transacted {
-        answer: answer,
-        state: state,
-        length: length,
+// The thirteen-cell pack as a device on the bus.
+#[derive(Clone, Copy)]
+struct OnBus {
+    state: ThirteenState,
+}
+
+impl Device for OnBus {
+    ghost side = { λ pack. thirteen_side pack.state };
+
+    fn address(&self) -> u8 {
+        0x16
+    }
+
+    fn must_check(&self) -> bool {
+        true
+    }
+
+    fn least(&self) -> usize {
+        34
+    }
+
+    fn is_sound(&self) -> bool {
+        thirteen_pack::sound(self.state)
+    }
+
+    fn kind(&self, command: u8) -> Kind {
+        row(command)
+    }
+
+    fn word(&self, command: u8) -> Shown {
+        thirteen_words::show(self.state.pack, command)
+    }
+
+    // All cells, which have no count.
+    fn put_block(&self, _command: u8, request: &[u8], room: &mut [u8]) -> Replied {
+        let cells = thirteen_words::cell_bytes(self.state.pack.cells);
+        let length = frame::put_body(room, request, &cells);
+        Replied { answer: 0, length }
     }
 }
 
-// A word read, with the answer that comes with the word.
-fn serve_word(s: ThirteenState, command: u8, bytes: &[u8], room: &mut [u8]) -> Transacted<ThirteenState>
-    requires { (sound_of s ≡ true) × (34 ≤ length room.old) }
-    ensures result { result ≡ outcome s (word_answer s.pack command) (length (reply_of bytes.now (word_body (word_of s.pack command)))) }
-    ensures memory { room.new ≡ placed (reply_of bytes.now (word_body (word_of s.pack command))) room.old }
+// The state with the error code that the answer leaves; nothing else changes.
+fn left(s: ThirteenState, answer: u8) -> ThirteenState
+    ensures { result ≡ left_by s answer }
 {
-    let shown = thirteen_words::show(s.pack, command);
-    let length = frame::put_word(room, bytes, shown.word);
-    answered(s, shown.answer, length)
-}
-
-// A read of all cells, which have no count.
-fn serve_cells(s: ThirteenState, command: u8, bytes: &[u8], room: &mut [u8]) -> Transacted<ThirteenState>
-    requires { 34 ≤ length room.old }
-    ensures result { result ≡ row_given s bytes.now command Block }
-    ensures memory { room.new ≡ placed (row_reply (thirteen_side s) bytes.now command Block) room.old }
-{
-    let cells = s.pack.cells;
-    let shown = thirteen_words::cell_bytes(cells);
-    let length = frame::put_body(room, bytes, &shown);
-    answered(s, 0, length)
-}
-
-// A read, by its command's row.
-fn serve_read(s: ThirteenState, command: u8, bytes: &[u8], room: &mut [u8]) -> Transacted<ThirteenState>
-    requires { (sound_of s ≡ true) × (34 ≤ length room.old) }
-    ensures result { result ≡ row_given s bytes.now command (thirteen_kind command) }
-    ensures memory { room.new ≡ placed (row_reply (thirteen_side s) bytes.now command (thirteen_kind command)) room.old }
-{
-    match row(command) {
-        Kind::Reserved => answered(s, 6, 0),
-        Kind::Optional => answered(s, 7, 0),
-        Kind::WriteOnly => answered(s, 8, 0),
-        Kind::Block => serve_cells(s, command, bytes, room),
-        Kind::ReadOnly => serve_word(s, command, bytes, room),
-        Kind::ReadWrite => serve_word(s, command, bytes, room),
+    ThirteenState {
+        error: commands::code_after(answer, s.error),
+        pack: s.pack,
     }
-}
-
-// What a write is answered: without PEC it has the wrong form.
-fn write_answer(command: u8, checked: bool) -> u8
-    ensures { result ≡ cond (not checked) 4 (write_answer (thirteen_kind command)) }
-{
-    if !checked {
-        return 4;
-    }
-    commands::write_answer(row(command))
 }
 
 // What the driver's bytes and mark are answered.
-pub fn transact(s: ThirteenState, read: bool, bytes: &[u8], room: &mut [u8]) -> Transacted<ThirteenState>
+pub fn transact(
+    s: ThirteenState,
+    read: bool,
+    bytes: &[u8],
+    room: &mut [u8],
+) -> Transacted<ThirteenState>
     ensures result { result ≡ transact_of s read bytes.now (length room.old) }
     ensures memory { room.new ≡ reply_room s read bytes.now room.old }
 {
-    if !thirteen_pack::sound(s) {
-        return answered(s, 1, 0);
-    }
-    if room.len() < 34 {
-        return answered(s, 2, 0);
-    }
-    match frame::recognise(0x16, read, bytes) {
-        Request::Refused(answer) => answered(s, answer, 0),
-        Request::Read(command) => serve_read(s, command, bytes, room),
-        Request::Write {
-            command,
-            word: _,
-            checked,
-        } => answered(s, write_answer(command, checked), 0),
+    let done = device::transact(&OnBus { state: s }, read, bytes, room);
+    Transacted {
+        answer: done.answer,
+        state: left(s, done.answer),
+        length: done.length,
     }
 }

@@ -1,47 +1,50 @@
--- `bus::transact` meets its contract: each return by the answer or the request that led there.
+-- `bus::transact` meets its contract: it is any side's transaction, and its write.
 -- Assumes nothing.
-use mathlib.Core.Path.{refl, sym, ◌∙◌}
-use native.Mathlib.Omega.{arith}
-use borrow.Author.Rules.{rules}
-use borrow.Author.Tests.{not-true, not-false}
+use Prim.Native.Nat.{ℕ}
+use mathlib.Core.Bool.{Bool, true, false, cond}
+use mathlib.Core.List.{List}
+use mathlib.Core.Path.{◌≡◌, refl, ap, ◌∙◌}
 use lib.ListN.{length}
-use Rattle.bus.proofs.Answers.{unsound, small-room, refusal, by_request}
+use Rattle.bus.specs.Transact.{pack_side, pack_after, pack_left, left_by, outcome, asked, transact_answer, transact_reply, transact_of, reply_room}
+use Rattle.commands.specs.Answers.{side_reply, served}
+use Rattle.commands.specs.declared.Transacted.{Transacted}
+use Rattle.device.specs.Device.{write_served, done_of, room_after}
+use Rattle.device.specs.declared.Done.{Done}
+use Rattle.frame.specs.declared.Request.{Request}
+use Rattle.frame.specs.declared.Request.TheVariants.{Refused, Read, Write}
+use Rattle.pack.specs.declared.Pack.{Pack}
+use Rattle.pack.specs.declared.State.{State}
+use Rattle.std.specs.Prelude.{Some, None}
+use Rattle.written.specs.Written.{pack_written}
 use Rattle.bus.proofs.transact.Goals as goal
 
-pub returns-then-not-sound : goal.returns-then-not-sound
-returns-then-not-sound c =
-    let a = c.args in
-    let e = refusal a.s a.service.now a.factory.now a.read a.bytes.now a.room.now 1 (unsound a.s a.service.now a.factory.now a.read a.bytes.now (length a.room.now) (sym c.sound.ensures ∙ c.if-not-sound.true)) refl in
-    record { result = c.unchanged.ensures ∙ e.0; memory = e.1 }
+-- the write that is served makes what is left
+left_after : (p : Pack) (request : Request) (answer : ℕ) → pack_left p (write_served request answer) ≡ pack_after p request answer
+left_after p (Refused n) answer = refl
+left_after p (Read command) answer = refl
+left_after p (Write command word checked) answer = go (served answer)
+  where
+    go : (b : Bool) → pack_left p (cond b (Some (record { command = command; word = word })) None) ≡ cond b (pack_written p command word) p
+    go true = refl
+    go false = refl
 
-pub returns-then-room-lt34 : goal.returns-then-room-lt34
-returns-then-room-lt34 c =
-    let a = c.args in
-    let sound = sym c.sound.ensures ∙ c.if-not-sound.false in
-    let e = refusal a.s a.service.now a.factory.now a.read a.bytes.now a.room.now 2 (small-room a.s a.service.now a.factory.now a.read a.bytes.now (length a.room.now) sound c.if-room-lt34.true) refl in
-    record { result = c.unchanged-then-room-lt34.ensures ∙ e.0; memory = e.1 }
+-- an answer, the state left and the number of reply bytes
+abbrev transacted : ℕ → State → ℕ → Transacted State
+transacted answer state length = record { answer = answer; state = state; length = length }
 
-pub serve_read-requires : goal.serve_read-requires
-serve_read-requires c = (sym c.sound.ensures ∙ c.if-not-sound.false, omega (arith, c.if-room-lt34.false))
+-- so any side's transaction is the pack's
+as_given : (s : State) (service factory : List ℕ) (read : Bool) (bytes : List ℕ) (room : ℕ) (done : Done) (state : State) → done ≡ done_of (pack_side s service factory) read bytes room
+    → state ≡ left_by s done.answer done.write → transacted done.answer state done.length ≡ transact_of s service factory read bytes room
+unfolding done_of transact_answer transact_of
+as_given s service factory read bytes room done state e f =
+    let answer = transact_answer s service factory read bytes room in
+    ap (λ (x : State). transacted done.answer x done.length) f
+    ∙ ap (λ (x : Done). transacted x.answer (left_by s x.answer x.write) x.length) e
+    ∙ ap (λ (x : Pack). outcome s answer x (length (side_reply (pack_side s service factory) bytes (asked read bytes) answer))) (left_after s.pack (asked read bytes) answer)
 
-pub returns-in-Refused : goal.returns-in-Refused
-returns-in-Refused c =
+pub returns : goal.returns
+unfolding room_after transact_answer transact_reply reply_room
+returns c =
     let a = c.args in
-    let sound = sym c.sound.ensures ∙ c.if-not-sound.false in
-    let e = by_request a.s a.service.now a.factory.now a.read a.bytes.now a.room.now _ sound c.if-room-lt34.false (sym c.recognise.ensures ∙ c.in-Refused.is) in
-    record { result = c.unchanged-in-Refused.ensures ∙ e.0; memory = e.1 }
-
-pub returns-in-Read : goal.returns-in-Read
-returns-in-Read c =
-    let a = c.args in
-    let sound = sym c.sound.ensures ∙ c.if-not-sound.false in
-    let e = by_request a.s a.service.now a.factory.now a.read a.bytes.now a.room.now _ sound c.if-room-lt34.false (sym c.recognise.ensures ∙ c.in-Read.is) in
-    let r = c.serve_read.ensures in
-    record { result = r.result ∙ e.0; memory = r.memory ∙ e.1 }
-
-pub returns-in-Write : goal.returns-in-Write
-returns-in-Write c =
-    let a = c.args in
-    let sound = sym c.sound.ensures ∙ c.if-not-sound.false in
-    let e = by_request a.s a.service.now a.factory.now a.read a.bytes.now a.room.now _ sound c.if-room-lt34.false (sym c.recognise.ensures ∙ c.in-Write.is) in
-    record { result = c.serve_write.ensures ∙ e.0; memory = e.1 }
+    let done = c.transact-done.ensures in
+    record { result = as_given a.s a.service.now a.factory.now a.read a.bytes.now (length a.room.now) _ _ done.result c.left.ensures; memory = done.memory }

@@ -1,7 +1,6 @@
 -- `thirteen::row` meets its contract: test by test.
 -- Assumes nothing.
 use mathlib.Core.Path.{sym, ◌∙◌}
-use borrow.Author.Rules.{rules}
 use borrow.Author.Tests.{eq-eqb, ne_eqb}
 use Rattle.thirteen.specs.Commands.{thirteen_kind}
 use Rattle.thirteen.proofs.row.Goals as goal

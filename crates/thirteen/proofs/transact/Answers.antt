@@ -1,49 +1,32 @@
--- `thirteen::transact` meets its contract: each return by the answer or the request that led there.
+-- `thirteen::transact` meets its contract: it is any side's transaction, and leaves its error code.
 -- Assumes nothing.
-use mathlib.Core.Path.{refl, sym, ap, ◌∙◌}
 use Prim.Native.Nat.{ℕ}
-use native.Mathlib.Omega.{arith}
-use borrow.Author.Rules.{rules}
-use borrow.Author.Tests.{not-true, not-false}
+use mathlib.Core.Bool.{Bool}
+use mathlib.Core.List.{List}
+use mathlib.Core.Path.{◌≡◌, ap, ◌∙◌}
 use lib.ListN.{length}
-use Rattle.thirteen.proofs.Answers.{unsound, small-room, refusal, by_request}
-use Rattle.thirteen.specs.Transact.{outcome}
+use Rattle.device.specs.Device.{done_of, room_after}
+use Rattle.device.specs.declared.Done.{Done}
+use Rattle.thirteen.specs.Transact.{thirteen_side, left_by, transact_answer, transact_reply, transact_of, reply_room}
+use Rattle.thirteen_pack.specs.declared.ThirteenState.{ThirteenState}
+use Rattle.commands.specs.declared.Transacted.{Transacted}
 use Rattle.thirteen.proofs.transact.Goals as goal
 
-pub returns-then-not-sound : goal.returns-then-not-sound
-returns-then-not-sound c =
-    let a = c.args in
-    let e = refusal a.s a.read a.bytes.now a.room.now 1 (unsound a.s a.read a.bytes.now (length a.room.now) (sym c.sound.ensures ∙ c.if-not-sound.true)) refl in
-    record { result = c.answered.ensures ∙ e.0; memory = e.1 }
+-- an answer, the state left and the number of reply bytes
+abbrev transacted : ℕ → ThirteenState → ℕ → Transacted ThirteenState
+transacted answer state length = record { answer = answer; state = state; length = length }
 
-pub returns-then-room-lt34 : goal.returns-then-room-lt34
-returns-then-room-lt34 c =
-    let a = c.args in
-    let sound = sym c.sound.ensures ∙ c.if-not-sound.false in
-    let e = refusal a.s a.read a.bytes.now a.room.now 2 (small-room a.s a.read a.bytes.now (length a.room.now) sound c.if-room-lt34.true) refl in
-    record { result = c.answered-then-room-lt34.ensures ∙ e.0; memory = e.1 }
+-- any side's transaction is the pack's
+as_given : (s : ThirteenState) (read : Bool) (bytes : List ℕ) (room : ℕ) (done : Done) (state : ThirteenState) → done ≡ done_of (thirteen_side s) read bytes room → state ≡ left_by s done.answer
+    → transacted done.answer state done.length ≡ transact_of s read bytes room
+unfolding done_of transact_answer transact_reply transact_of
+as_given s read bytes room done state e f =
+    ap (λ (x : ThirteenState). transacted done.answer x done.length) f
+    ∙ ap (λ (x : Done). transacted x.answer (left_by s x.answer) x.length) e
 
-pub serve_read-requires : goal.serve_read-requires
-serve_read-requires c = (sym c.sound.ensures ∙ c.if-not-sound.false, omega (arith, c.if-room-lt34.false))
-
-pub returns-in-Refused : goal.returns-in-Refused
-returns-in-Refused c =
+pub returns : goal.returns
+unfolding room_after transact_answer transact_reply reply_room
+returns c =
     let a = c.args in
-    let sound = sym c.sound.ensures ∙ c.if-not-sound.false in
-    let e = by_request a.s a.read a.bytes.now a.room.now _ sound c.if-room-lt34.false (sym c.recognise.ensures ∙ c.in-Refused.is) in
-    record { result = c.answered-in-Refused.ensures ∙ e.0; memory = e.1 }
-
-pub returns-in-Read : goal.returns-in-Read
-returns-in-Read c =
-    let a = c.args in
-    let sound = sym c.sound.ensures ∙ c.if-not-sound.false in
-    let e = by_request a.s a.read a.bytes.now a.room.now _ sound c.if-room-lt34.false (sym c.recognise.ensures ∙ c.in-Read.is) in
-    let r = c.serve_read.ensures in
-    record { result = r.result ∙ e.0; memory = r.memory ∙ e.1 }
-
-pub returns-in-Write : goal.returns-in-Write
-returns-in-Write c =
-    let a = c.args in
-    let sound = sym c.sound.ensures ∙ c.if-not-sound.false in
-    let e = by_request a.s a.read a.bytes.now a.room.now _ sound c.if-room-lt34.false (sym c.recognise.ensures ∙ c.in-Write.is) in
-    record { result = c.answered-in-Write.ensures ∙ ap (λ (n : ℕ). outcome a.s n 0) c.write_answer.ensures ∙ e.0; memory = e.1 }
+    let done = c.transact-done.ensures in
+    record { result = as_given a.s a.read a.bytes.now (length a.room.now) _ _ done.result c.left.ensures; memory = done.memory }
