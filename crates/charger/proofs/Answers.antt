@@ -1,6 +1,6 @@
 -- What a transaction gives, by its answer and by its request.
 -- Assumes nothing.
-use Prim.Native.Nat.{ℕ, ◌<◌, ◌≤◌}
+use Prim.Native.Nat.{ℕ, ◌≤◌}
 use mathlib.Core.Bool.{Bool, true, false, cond}
 use mathlib.Core.List.{List, []}
 use mathlib.Core.Path.{◌≡◌, refl, ap, ap₂, sym, ◌∙◌}
@@ -15,8 +15,6 @@ use Rattle.frame.proofs.Marks.{by_read}
 use Rattle.frame.specs.declared.Request.{Request}
 use Rattle.frame.specs.declared.Request.TheVariants.{Refused, Read, Write}
 use Rattle.rooms.specs.Rooms.{placed}
-
-
 
 -- ---- a refusal
 
