@@ -3,10 +3,11 @@
 #![tactic(auto)]
 
 ghost use Rattle.std.specs.Prelude.{◌≡◌};
-ghost use Rattle.capture.specs.Walk.{opened_of, step_at, body_at, body_place, row_after, place_after};
+ghost use Rattle.capture.specs.Walk.{opened_of, first_place, step_at, body_at, body_place, row_after, place_after};
 ghost use Rattle.reader.specs.Reading.{start_of, step_of, body_of, body_start, after_of};
 
 use capture::Step;
+use refusals::Refusal;
 
 #[derive(Clone, Copy)]
 pub struct Reader<'a> {
@@ -17,9 +18,12 @@ pub struct Reader<'a> {
 
 // The place of the first row; 0 for bytes that aren't a capture.
 fn first_place(s: &[u8]) -> usize
-    ensures { result ≡ (opened_of s.now).place }
+    ensures { result ≡ first_place (opened_of s.now) }
 {
-    capture::open(s).place
+    match capture::open(s) {
+        Ok(opened) => opened.place,
+        Err(_) => 0,
+    }
 }
 
 // The row that a step goes on to; at the end, the same.
@@ -27,9 +31,8 @@ fn row_after(s: &[u8], row: usize, place: usize) -> usize
     ensures { result ≡ row_after (step_at s.now row place) row }
 {
     match capture::step_at(s, row, place) {
-        Step::Next(_, next, _) => next,
-        Step::End => row,
-        Step::NotCapture => row,
+        Ok(Some(step)) => step.row,
+        _ => row,
     }
 }
 
@@ -38,9 +41,8 @@ fn place_after(s: &[u8], row: usize, place: usize) -> usize
     ensures { result ≡ place_after (step_at s.now row place) place }
 {
     match capture::step_at(s, row, place) {
-        Step::Next(_, _, next) => next,
-        Step::End => place,
-        Step::NotCapture => place,
+        Ok(Some(step)) => step.place,
+        _ => place,
     }
 }
 
@@ -64,8 +66,8 @@ pub fn start<'a>(bytes: &'a [u8]) -> Reader<'a>
     }
 }
 
-// The mark of the reader's row, with the next row and place; or that it is at the end.
-pub fn next<'a>(r: Reader<'a>) -> Step
+// The mark of the reader's row, with the next row and place; None at the end.
+pub fn next<'a>(r: Reader<'a>) -> Result<Option<Step>, Refusal>
     ensures { result ≡ step_of r.entry }
 {
     capture::step_at(r.bytes, r.row, r.place)
