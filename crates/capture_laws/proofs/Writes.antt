@@ -8,8 +8,8 @@ use lib.Dec.{leb}
 use lib.ListN.{length, take, drop, length-append, length-map, length-take, length-drop}
 use lib.Seq.{take-append_seam, drop-append_seam}
 use borrow.Author.Tests.{le-leb, eq-eqb}
-use Rattle.rooms.specs.declared.Wrote.{Wrote}
-use Rattle.rooms.specs.Rooms.{placed, wrote}
+use Rattle.std.specs.Prelude.{Ok}
+use Rattle.rooms.specs.Rooms.{placed}
 use Rattle.capture.specs.Capture.{Row, fits, all_fit, RowsFit, row_bodies, capture_of}
 use Rattle.capture.specs.Walk.{walk}
 use Rattle.capture_writer.specs.Writer.{rows_given, pairs_fit, sum, given_fit, room_asked, capture_wrote, capture_room}
@@ -49,16 +49,17 @@ writes rows f room h =
     let n : length (sizes_of rows) ≡ length rows = length-map rows (λ (r : Row). length r.body) in
     let held : leb (room_asked (marks_of rows) (sizes_of rows) (row_bodies rows)) (length room) ≡ true = le-leb (room_asked (marks_of rows) (sizes_of rows) (row_bodies rows)) (length room) (omega (arith, capture_length rows)) in
     let g = given_again rows f in
-    (simp (held, g) (ap (λ (l : List Row). wrote 0 (length (capture_of l))) (rows_again rows)), simp (held, g) (ap (λ (l : List Row). placed (capture_of l) room) (rows_again rows)))
+    (simp (held, g) (ap (λ (l : List Row). Ok (length (capture_of l))) (rows_again rows)), simp (held, g) (ap (λ (l : List Row). placed (capture_of l) room) (rows_again rows)))
 
 -- read back from the room, up to the length answered, they are the very rows
 pub read_back : RowsReadBack
 read_back rows f room h k b =
     let w = writes rows f room h in
-    ap (λ (o : Wrote). walk k (take o.length (capture_room (marks_of rows) (sizes_of rows) (row_bodies rows) room)) 0 (2 * length rows + 1)) w.0
-    ∙ ap (λ (s : List ℕ). walk k (take (length (capture_of rows)) s) 0 (2 * length rows + 1)) w.1
+    let again =
+    ap (λ (s : List ℕ). walk k (take (length (capture_of rows)) s) 0 (2 * length rows + 1)) w.1
     ∙ ap (λ (s : List ℕ). walk k s 0 (2 * length rows + 1)) (take-append_seam (capture_of rows) (drop (length (capture_of rows)) room))
-    ∙ walked rows f k b
+    ∙ walked rows f k b in
+    (length (capture_of rows), (w.0, again))
 
 given-fit : (marks sizes bodies : List ℕ) → sum sizes ≡ length bodies → pairs_fit marks sizes ≡ true → all_fit (rows_given marks sizes bodies) ≡ true
 unfolding rows_given all_fit pairs_fit sum

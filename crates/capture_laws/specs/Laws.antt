@@ -1,11 +1,11 @@
 -- What is proved of captures, of their walk, their reader and their writer. Assumes nothing: these are definitions.
-use Rattle.std.specs.Prelude.{◌≡◌, ◌↔◌, Bool, cond, true, false, ◌&&◌, List, [], ◌∷◌, map, ℕ, zero, suc, ◌+◌, ◌*◌, ◌≤◌, ◌<◌, ltb, leb, replicate, length, take, drop}
+use Rattle.std.specs.Prelude.{◌≡◌, ◌↔◌, Bool, cond, true, false, ◌&&◌, List, [], ◌∷◌, map, ℕ, zero, suc, ◌+◌, ◌*◌, ◌≤◌, ◌<◌, ltb, leb, replicate, length, take, drop, Some, None, Ok, Err}
 use Rattle.std.specs.Borrow.{Bor}
-use Rattle.rooms.specs.Rooms.{placed, wrote}
-use Rattle.capture.specs.declared.Step.{Step}
-use Rattle.capture.specs.declared.Step.TheVariants.{Next, End, NotCapture}
+use Rattle.refusals.specs.Numbers.{answer_of}
+use Rattle.refusals.specs.declared.Refusal.TheVariants.{NotACapture}
+use Rattle.rooms.specs.Rooms.{placed}
 use Rattle.capture.specs.Capture.{Row, RowsFit, row_bodies, capture_of, capture_most, IsCapture, count_in, mark_in, length_in, place_in, is_capture}
-use Rattle.capture.specs.Walk.{opened_of, seen_bad, step_at, body_at, answer_of, walk}
+use Rattle.capture.specs.Walk.{opened_of, first_place, Shows, seen_bad, step_at, body_at, walk}
 use Rattle.capture_writer.specs.Writer.{given_fit, capture_given, capture_wrote, capture_room}
 use Rattle.reader.specs.declared.Reader.{Reader}
 use Rattle.reader.specs.Reading.{start_of, step_of, after_of, moved, shown_by}
@@ -53,18 +53,18 @@ WalkVisitsAll = (rows : List Row) → RowsFit rows → (k : ℕ) → length rows
 
 -- 6. the last place is the exact end, and there the walk ends; so it does past the last row at every place but 0
 abbrev pub ExactEnd : Type 0
-ExactEnd = (s : List ℕ) → is_capture s ≡ true → (place_in s (count_in s) ≡ length s) × ((place : ℕ) → 0 < place → step_at s (count_in s) place ≡ End)
+ExactEnd = (s : List ℕ) → is_capture s ≡ true → (place_in s (count_in s) ≡ length s) × ((place : ℕ) → 0 < place → step_at s (count_in s) place ≡ Ok None)
 
 -- a row by a test of the whole: bytes are a capture with that row, and have its length of bytes at that place
 abbrev pub has_row_whole : List ℕ → ℕ → ℕ → Bool
 has_row_whole s row place = is_capture s && ltb row (count_in s) && leb (place + length_in s row) (length s)
 
 -- a step and a body that would test the whole capture at each row
-unfoldable pub step_whole : List ℕ → ℕ → ℕ → Step
+unfoldable pub step_whole : List ℕ → ℕ → ℕ → Shows
 step_whole s row place =
     cond (has_row_whole s row place)
-    (Next (mark_in s row) (row + 1) (place + length_in s row))
-    (cond (is_capture s) End NotCapture)
+    (Ok (Some (record { mark = mark_in s row; row = row + 1; place = place + length_in s row })))
+    (cond (is_capture s) (Ok None) (Err NotACapture))
 
 unfoldable pub body_whole : List ℕ → ℕ → ℕ → List ℕ
 body_whole s row place = cond (has_row_whole s row place) (take (length_in s row) (drop place s)) []
@@ -75,11 +75,12 @@ StepAsWhole =
     (s : List ℕ) → is_capture s ≡ true → (row place : ℕ) → place_in s 0 ≤ place
     → (step_at s row place ≡ step_whole s row place) × (body_at s row place ≡ body_whole s row place)
 
--- 8. of other bytes opening gives place 0, and from there every step says that they are no capture, and no row has a body
+-- 8. other bytes are refused at opening; a walk of them is at place 0, where every step says that they are no capture, and no row has a body
 abbrev pub OthersRefused : Type 0
 OthersRefused =
     (s : List ℕ) → is_capture s ≡ false
-    → ((opened_of s).place ≡ 0) × ((row : ℕ) → (step_at s row (opened_of s).place ≡ NotCapture) × (body_at s row (opened_of s).place ≡ []))
+    → (opened_of s ≡ Err NotACapture) × (first_place (opened_of s) ≡ 0)
+    × ((row : ℕ) → (step_at s row (first_place (opened_of s)) ≡ Err NotACapture) × (body_at s row (first_place (opened_of s)) ≡ []))
 
 -- 9. a step's number is 14 exactly where it sees that bytes are no capture, and of a capture it sees that at place 0 alone
 abbrev pub StepAnswer : Type 0
@@ -88,13 +89,13 @@ StepAnswer = (s : List ℕ) (row place : ℕ) → answer_of (step_at s row place
 abbrev pub SeenRightly : Type 0
 SeenRightly = (s : List ℕ) → is_capture s ≡ true → (row place : ℕ) → 0 < place → seen_bad s row place ≡ false
 
--- so from the place that opening gives, a step's number is 14 exactly for bytes that aren't a capture
+-- so from the place that a walk begins at, a step's number is 14 exactly for bytes that aren't a capture
 abbrev pub OpenedAnswer : Type 0
-OpenedAnswer = (s : List ℕ) (row : ℕ) → answer_of (step_at s row (opened_of s).place) ≡ cond (is_capture s) 0 14
+OpenedAnswer = (s : List ℕ) (row : ℕ) → answer_of (step_at s row (first_place (opened_of s))) ≡ cond (is_capture s) 0 14
 
 -- 10. a walk from opening shows the rows of a capture, and of other bytes none
 abbrev pub WalkFromOpening : Type 0
-WalkFromOpening = (s : List ℕ) (k : ℕ) → count_in s ≤ k → walk k s 0 (opened_of s).place ≡ cond (is_capture s) (rows_from s 0 (count_in s)) []
+WalkFromOpening = (s : List ℕ) (k : ℕ) → count_in s ≤ k → walk k s 0 (first_place (opened_of s)) ≡ cond (is_capture s) (rows_from s 0 (count_in s)) []
 
 -- ---- their reader
 
@@ -114,7 +115,7 @@ ReaderMoved = (bytes : Bor (List ℕ)) → is_capture bytes.now ≡ true → (k 
 abbrev pub ReaderEnds : Type 0
 ReaderEnds =
     (bytes : Bor (List ℕ)) → is_capture bytes.now ≡ true
-    → (step_of (reader_at bytes (count_in bytes.now)) ≡ End) × ((reader_at bytes (count_in bytes.now)).place ≡ length bytes.now)
+    → (step_of (reader_at bytes (count_in bytes.now)) ≡ Ok None) × ((reader_at bytes (count_in bytes.now)).place ≡ length bytes.now)
 
 -- and stays
 abbrev pub ReaderStays : Type 0
@@ -129,7 +130,7 @@ ReaderShowsAll =
 abbrev pub ReaderRefuses : Type 0
 ReaderRefuses =
     (bytes : Bor (List ℕ)) → is_capture bytes.now ≡ false
-    → (step_of (start_of bytes) ≡ NotCapture) × ((k : ℕ) → moved k (start_of bytes) ≡ start_of bytes)
+    → (step_of (start_of bytes) ≡ Err NotACapture) × ((k : ℕ) → moved k (start_of bytes) ≡ start_of bytes)
 
 -- 15. so a reader shows the rows of a capture, and of other bytes none
 abbrev pub ReaderFromStart : Type 0
@@ -154,11 +155,12 @@ ServedIsCapture = (marks sizes bodies : List ℕ) → given_fit marks sizes bodi
 abbrev pub FitIsWritten : Type 0
 FitIsWritten =
     (rows : List Row) → RowsFit rows → (room : List ℕ) → length (capture_of rows) ≤ length room
-    → (capture_wrote (marks_of rows) (sizes_of rows) (row_bodies rows) room ≡ wrote 0 (length (capture_of rows)))
+    → (capture_wrote (marks_of rows) (sizes_of rows) (row_bodies rows) room ≡ Ok (length (capture_of rows)))
     × (capture_room (marks_of rows) (sizes_of rows) (row_bodies rows) room ≡ placed (capture_of rows) room)
 
 -- 18. read back from the room, up to the length answered, they are the very rows
 abbrev pub RowsReadBack : Type 0
 RowsReadBack =
     (rows : List Row) → RowsFit rows → (room : List ℕ) → length (capture_of rows) ≤ length room → (k : ℕ) → length rows ≤ k
-    → walk k (take (capture_wrote (marks_of rows) (sizes_of rows) (row_bodies rows) room).length (capture_room (marks_of rows) (sizes_of rows) (row_bodies rows) room)) 0 (2 * length rows + 1) ≡ rows
+    → (n : ℕ) × ((capture_wrote (marks_of rows) (sizes_of rows) (row_bodies rows) room ≡ Ok n)
+    × (walk k (take n (capture_room (marks_of rows) (sizes_of rows) (row_bodies rows) room)) 0 (2 * length rows + 1) ≡ rows))

@@ -7,11 +7,14 @@ use native.Mathlib.Omega.{arith}
 use lib.Dec.{leb, eqb}
 use lib.ListN.{length, take, drop, set, length-append, length-take, length-drop, take-append-drop}
 use lib.Seq.{sets}
-use borrow.Author.Tests.{leb-true, eqb-true, ne_eqb}
-use Rattle.rooms.specs.Rooms.{wrote}
+use borrow.Author.Tests.{leb-true, eqb-true}
+use Rattle.std.specs.Prelude.{Result, Ok, Err}
+use Rattle.refusals.specs.declared.Refusal.{Refusal}
+use Rattle.refusals.specs.declared.Refusal.TheVariants.{SmallRoom, NotACapture}
+use Rattle.rooms.specs.Rooms.{placed}
 use Rattle.rooms.proofs.Rooms.{then, front}
 use Rattle.capture.specs.Capture.{table_of, row_bodies}
-use Rattle.capture_writer.specs.Writer.{rows_given, interleaved, pairs_fit, sum, given_fit, room_asked, capture_given, capture_answer, capture_wrote, capture_room}
+use Rattle.capture_writer.specs.Writer.{rows_given, interleaved, pairs_fit, sum, given_fit, room_asked, capture_given, capture_allowed, capture_wrote, capture_room}
 
 -- what the writer's test finds
 pub record Given (marks sizes bodies : List ℕ) : Type 0 where
@@ -60,18 +63,27 @@ given_bodies (m ∷ marks) (l ∷ sizes) bodies e t =
     rw (given_bodies marks sizes (drop l bodies) (omega arith) b) (take-append-drop l bodies)
 
 module _ (marks sizes bodies room : List ℕ) where
-  pub refused : (a : ℕ) → a ≡ capture_answer marks sizes bodies (length room) → (a ≡ 0 → ⊥) → (wrote a 0 ≡ capture_wrote marks sizes bodies room) × (room ≡ capture_room marks sizes bodies room)
-  unfolding capture_wrote capture_room
-  refused a e ne = let f = ne_eqb (capture_answer marks sizes bodies (length room)) 0 (λ z. ne (e ∙ z)) in (rw f (ap (λ (n : ℕ). wrote n 0) e), rw f)
-
-  -- an answer of 0: the room is long enough, and the rows fit
-  pub allowed : (a : ℕ) → a ≡ capture_answer marks sizes bodies (length room) → a ≡ 0 → (leb (room_asked marks sizes bodies) (length room) ≡ true) × (given_fit marks sizes bodies ≡ true)
-  allowed a e z = by_tests (leb (room_asked marks sizes bodies) (length room)) (given_fit marks sizes bodies) (sym e ∙ z)
+  tests : {t : Result (Unit {0}) Refusal} {unit : Unit {0}} → t ≡ capture_allowed marks sizes bodies (length room) → t ≡ Ok unit → (leb (room_asked marks sizes bodies) (length room) ≡ true) × (given_fit marks sizes bodies ≡ true)
+  tests e z = by_tests (leb (room_asked marks sizes bodies) (length room)) (given_fit marks sizes bodies) (sym e ∙ z)
     where
-      by_tests : (b c : Bool) → ◌≡◌ {A = ℕ} (cond b (cond c 0 14) 2) 0 → (b ≡ true) × (c ≡ true)
+      by_tests : (b c : Bool) {unit : Unit {0}} → cond b (cond c (Ok (tt {0})) (Err NotACapture)) (Err SmallRoom) ≡ Ok unit → (b ≡ true) × (c ≡ true)
       by_tests true true h = (refl, refl)
-      by_tests true false h = absurd (omega arith)
-      by_tests false c h = absurd (omega arith)
+      by_tests true false h = cc
+      by_tests false c h = cc
+
+  -- where it may be written, the room is long enough, and the rows fit
+  pub not_refused : {t : Result (Unit {0}) Refusal} {unit : Unit {0}} → t ≡ capture_allowed marks sizes bodies (length room) → t ≡ Ok unit → (room_asked marks sizes bodies ≤ length room) × Given marks sizes bodies
+  not_refused e z = let both = tests e z in (leb-true (room_asked marks sizes bodies) (length room) both.0, given marks sizes bodies both.1)
+
+  pub refused : {t : Result (Unit {0}) Refusal} {reason : Refusal} → t ≡ capture_allowed marks sizes bodies (length room) → t ≡ Err reason → (Err reason ≡ capture_wrote marks sizes bodies room) × (room ≡ capture_room marks sizes bodies room)
+  unfolding capture_wrote capture_room
+  refused {t} {reason} e z = by_tests (leb (room_asked marks sizes bodies) (length room)) (given_fit marks sizes bodies) (sym e ∙ z)
+    where
+      by_tests : (b c : Bool) → cond b (cond c (Ok (tt {0})) (Err NotACapture)) (Err SmallRoom) ≡ Err reason
+          → (Err reason ≡ cond b (cond c (Ok (length (capture_given marks sizes bodies))) (Err NotACapture)) (Err SmallRoom)) × (room ≡ cond (b && c) (placed (capture_given marks sizes bodies) room) room)
+      by_tests true true h = cc
+      by_tests true false h = (cc, refl)
+      by_tests false c h = (cc, refl)
 
   -- the capture, as it is stored
   given_is : Given marks sizes bodies → capture_given marks sizes bodies ≡ length marks ∷ (interleaved marks sizes ++ bodies)
@@ -80,14 +92,16 @@ module _ (marks sizes bodies room : List ℕ) where
   given-length : Given marks sizes bodies → length (capture_given marks sizes bodies) ≡ 2 * length marks + 1 + length bodies
   given-length g = ap length (given_is g) ∙ rw (length-append, interleaved_length marks sizes g.even) (omega arith)
 
-  pub served : leb (room_asked marks sizes bodies) (length room) ≡ true → given_fit marks sizes bodies ≡ true
+  pub served : {t : Result (Unit {0}) Refusal} {unit : Unit {0}} → t ≡ capture_allowed marks sizes bodies (length room) → t ≡ Ok unit
       → {r₁ r₂ : List ℕ} → r₁ ≡ sets (set room 0 (length marks)) 1 (interleaved marks sizes) → {place : ℕ} → place ≡ 2 * length marks + 1 → r₂ ≡ sets r₁ place bodies
-      → (a : ℕ) → a ≡ 0 → (wrote a (place + length bodies) ≡ capture_wrote marks sizes bodies room) × (r₂ ≡ capture_room marks sizes bodies room)
+      → (Ok (place + length bodies) ≡ capture_wrote marks sizes bodies room) × (r₂ ≡ capture_room marks sizes bodies room)
   unfolding capture_wrote capture_room
-  served e f {r₁} {r₂} h₁ {place} p h₂ a z =
-      let g = given marks sizes bodies f in
+  served e z {r₁} {r₂} h₁ {place} p h₂ =
+      let o = not_refused e z in
+      let both = tests e z in
+      let g = o.1 in
       let n : place + length bodies ≡ length (capture_given marks sizes bodies) = omega (arith, given-length g) in
       let at : place ≡ 0 + length (length marks ∷ interleaved marks sizes) = omega (arith, interleaved_length marks sizes g.even) in
       let stored = h₂ ∙ then room 0 place (length marks ∷ interleaved marks sizes) bodies h₁ at ∙ ap (sets room 0) (sym (given_is g)) in
-      let fits : length (capture_given marks sizes bodies) ≤ length room = omega (arith, leb-true (room_asked marks sizes bodies) (length room) e, g.even) in
-      (simp (e, f, z) (ap (wrote 0) n), simp (e, f) (stored ∙ front (capture_given marks sizes bodies) room fits))
+      let fits : length (capture_given marks sizes bodies) ≤ length room = omega (arith, o.0, given-length g, g.even) in
+      (simp (both.0, both.1) (ap Ok n), simp (both.0, both.1) (stored ∙ front (capture_given marks sizes bodies) room fits))

@@ -1,7 +1,8 @@
 -- Document 01, Pack sheet and capture: writing a capture into a lent room. Assumes nothing: these are definitions.
-use Rattle.std.specs.Prelude.{Bool, true, cond, ◌&&◌, List, [], ◌∷◌, ℕ, ◌+◌, leb, eqb, length, take, drop}
-use Rattle.rooms.specs.declared.Wrote.{Wrote}
-use Rattle.rooms.specs.Rooms.{placed, wrote}
+use Rattle.std.specs.Prelude.{Bool, true, cond, ◌&&◌, List, [], ◌∷◌, ℕ, ◌+◌, leb, eqb, length, take, drop, Result, Ok, Err}
+use Rattle.refusals.specs.declared.Refusal.{Refusal}
+use Rattle.refusals.specs.declared.Refusal.TheVariants.{SmallRoom, NotACapture}
+use Rattle.rooms.specs.Rooms.{placed}
 use Rattle.capture.specs.Capture.{Row, fits, capture_of}
 
 -- the rows that are given by their marks, their lengths and their bodies joined
@@ -37,17 +38,20 @@ room_asked marks sizes bodies = 1 + length marks + length sizes + length bodies
 abbrev pub capture_given : List ℕ → List ℕ → List ℕ → List ℕ
 capture_given marks sizes bodies = capture_of (rows_given marks sizes bodies)
 
--- of a room of so many bytes. 2: it is too short; 14: no rows of a capture; else 0 (RULES 1.2, 1.14)
-abbrev pub capture_answer : List ℕ → List ℕ → List ℕ → ℕ → ℕ
-capture_answer marks sizes bodies room = cond (leb (room_asked marks sizes bodies) room) (cond (given_fit marks sizes bodies) 0 14) 2
+-- whether it may be written into a room of so many bytes, and else why not
+abbrev pub capture_allowed : List ℕ → List ℕ → List ℕ → ℕ → Result (Unit {0}) Refusal
+capture_allowed marks sizes bodies room =
+    cond (leb (room_asked marks sizes bodies) room)
+    (cond (given_fit marks sizes bodies) (Ok (tt {0})) (Err NotACapture))
+    (Err SmallRoom)
 
--- the answer, and the capture's length if it was written
-unfoldable pub capture_wrote : List ℕ → List ℕ → List ℕ → List ℕ → Wrote
+-- the capture's length if it is written; else it is refused: the room is too short, then the rows are none of a capture (RULES 1.2, 1.14)
+unfoldable pub capture_wrote : List ℕ → List ℕ → List ℕ → List ℕ → Result ℕ Refusal
 capture_wrote marks sizes bodies room =
-    cond (eqb (capture_answer marks sizes bodies (length room)) 0)
-    (wrote 0 (length (capture_given marks sizes bodies)))
-    (wrote (capture_answer marks sizes bodies (length room)) 0)
+    cond (leb (room_asked marks sizes bodies) (length room))
+    (cond (given_fit marks sizes bodies) (Ok (length (capture_given marks sizes bodies))) (Err NotACapture))
+    (Err SmallRoom)
 
 -- the capture at the front; else all stays (RULES 2.5)
 unfoldable pub capture_room : List ℕ → List ℕ → List ℕ → List ℕ → List ℕ
-capture_room marks sizes bodies room = cond (eqb (capture_answer marks sizes bodies (length room)) 0) (placed (capture_given marks sizes bodies) room) room
+capture_room marks sizes bodies room = cond (leb (room_asked marks sizes bodies) (length room) && given_fit marks sizes bodies) (placed (capture_given marks sizes bodies) room) room

@@ -1,17 +1,16 @@
 -- Document 01, Pack sheet and capture: "A reader walks a lent capture and remembers its row and place." Assumes nothing: these are definitions.
 use Rattle.std.specs.Prelude.{List, [], ℕ, zero, suc}
 use Rattle.std.specs.Borrow.{Bor}
-use Rattle.capture.specs.declared.Step.{Step}
 use Rattle.capture.specs.Capture.{Row}
-use Rattle.capture.specs.Walk.{opened_of, step_at, body_at, body_place, row_after, place_after, follow}
+use Rattle.capture.specs.Walk.{opened_of, first_place, Shows, step_at, body_at, body_place, row_after, place_after, follow}
 use Rattle.reader.specs.declared.Reader.{Reader}
 
 -- a reader begins at row 0 and its place (RULES 10.4)
 abbrev pub start_of : Bor (List ℕ) → Reader
-start_of bytes = record { bytes = bytes; row = 0; place = (opened_of bytes.now).place }
+start_of bytes = record { bytes = bytes; row = 0; place = first_place (opened_of bytes.now) }
 
 -- what stands at a reader's row and place (RULES 10.5)
-abbrev pub step_of : Reader → Step
+abbrev pub step_of : Reader → Shows
 step_of r = step_at r.bytes.now r.row r.place
 
 -- the body of a reader's row; or no bytes (RULES 10.4)

@@ -1,12 +1,11 @@
-// A reader walks a lent capture and remembers its row and place. Each function over the struct takes it apart and leaves
-// the work to a covered function on the bytes and the two numbers.
+// A reader walks a lent capture and remembers its row and place.
 #![tactic(auto)]
 
 ghost use Rattle.std.specs.Prelude.{◌≡◌};
-ghost use Rattle.capture.specs.Walk.{opened_of, step_at, body_at, body_place, row_after, place_after};
 ghost use Rattle.reader.specs.Reading.{start_of, step_of, body_of, body_start, after_of};
 
 use capture::Step;
+use refusals::Refusal;
 
 #[derive(Clone, Copy)]
 pub struct Reader<'a> {
@@ -15,48 +14,14 @@ pub struct Reader<'a> {
     pub place: usize,
 }
 
-// The place of the first row; 0 for bytes that aren't a capture.
-fn first_place(s: &[u8]) -> usize
-    ensures { result ≡ (opened_of s.now).place }
-{
-    capture::open(s).place
-}
-
-// The row that a step goes on to; at the end, the same.
-fn row_after(s: &[u8], row: usize, place: usize) -> usize
-    ensures { result ≡ row_after (step_at s.now row place) row }
-{
-    match capture::step_at(s, row, place) {
-        Step::Next(_, next, _) => next,
-        Step::End => row,
-        Step::NotCapture => row,
-    }
-}
-
-// The place that a step goes on to; at the end, the same.
-fn place_after(s: &[u8], row: usize, place: usize) -> usize
-    ensures { result ≡ place_after (step_at s.now row place) place }
-{
-    match capture::step_at(s, row, place) {
-        Step::Next(_, _, next) => next,
-        Step::End => place,
-        Step::NotCapture => place,
-    }
-}
-
-// The body of a row at a place: a part of the capture.
-fn bytes_at(s: &[u8], row: usize, place: usize) -> &[u8]
-    ensures result_value { result.now ≡ body_at s.now row place }
-    ensures ref_ptr_value { result.ref_ptr ≡ body_place s.now row place s.entry.ref_ptr }
-{
-    capture::body_at(s, row, place)
-}
-
-// A reader at the first row.
+// A reader at the first row; of bytes that aren't a capture at place 0, where every step says so.
 pub fn start<'a>(bytes: &'a [u8]) -> Reader<'a>
     ensures { result ≡ start_of bytes.entry }
 {
-    let place = first_place(bytes);
+    let place = match capture::open(bytes) {
+        Ok(opened) => opened.place,
+        Err(_) => 0,
+    };
     Reader {
         bytes,
         row: 0,
@@ -64,8 +29,8 @@ pub fn start<'a>(bytes: &'a [u8]) -> Reader<'a>
     }
 }
 
-// The mark of the reader's row, with the next row and place; or that it is at the end.
-pub fn next<'a>(r: Reader<'a>) -> Step
+// The mark of the reader's row, with the next row and place; None at the end.
+pub fn next<'a>(r: Reader<'a>) -> Result<Option<Step>, Refusal>
     ensures { result ≡ step_of r.entry }
 {
     capture::step_at(r.bytes, r.row, r.place)
@@ -76,18 +41,19 @@ pub fn body<'a>(r: Reader<'a>) -> &'a [u8]
     ensures result_value { result.now ≡ body_of r.entry }
     ensures ref_ptr_value { result.ref_ptr ≡ body_start r.entry }
 {
-    bytes_at(r.bytes, r.row, r.place)
+    capture::body_at(r.bytes, r.row, r.place)
 }
 
 // The reader at the next row; at the end, where it was.
 pub fn after<'a>(r: Reader<'a>) -> Reader<'a>
     ensures { result ≡ after_of r.entry }
 {
-    let row = row_after(r.bytes, r.row, r.place);
-    let place = place_after(r.bytes, r.row, r.place);
-    Reader {
-        bytes: r.bytes,
-        row,
-        place,
+    match next(r) {
+        Ok(Some(step)) => Reader {
+            bytes: r.bytes,
+            row: step.row,
+            place: step.place,
+        },
+        _ => r,
     }
 }

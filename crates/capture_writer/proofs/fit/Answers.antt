@@ -1,27 +1,44 @@
 -- `fit` meets its contract: the rows passed fit, and the rest decides as the whole does. Assumes nothing.
-use mathlib.Core.Path.{refl, sym, ◌∙◌}
-use native.Mathlib.Omega.{arith}
-use Rattle.capture_writer.proofs.Given.{pair-unfit-mark, pair-unfit-length, pair_fits, pairs_end, sum_more, sum_end, given-uneven, given-over, given-unfit, given_told}
+use Rattle.std.proofs.Common.{ap, ◌∙◌, arith}
+use Rattle.std.specs.Iterator.Adapters.{zip_first, zip_second}
+use Rattle.std.specs.Slice.Iter.{iter_rest}
+use Rattle.std.proofs.lemmas.Slice.Zip.{either_empty_from_Zip}
+use Rattle.capture_writer.proofs.Given.{none_tested, unfit_mark, unfit_size, more, all_tested, given_uneven, given_over, given_unfit, given_told}
+use Rattle.capture_writer.proofs.fit.Goals.{then-mark-gt1-via-then-mark-gt1, then-mark-gt1-via-else-mark-gt1+then-length-gt-LONGEST}
 use Rattle.capture_writer.proofs.fit.Goals as goal
 
-pub returns-then-n-lengths : goal.returns-then-n-lengths
-returns-then-n-lengths c = given-uneven _ _ _ c.if-n-lengths.true
+pub returns-then-marks-lengths : goal.returns-then-marks-lengths
+returns-then-marks-lengths c = grind (arith, given_uneven, given_over)
 
-pub returns-then-n-gt255 : goal.returns-then-n-gt255
-returns-then-n-gt255 c = given-over _ _ _ c.if-n-gt255.true
+pub loop-mark-init : goal.loop-mark-init
+loop-mark-init c =
+    let from = c.into_iter-mark-iterator.ensures.into_iter_gives in
+    let z = c.zip-mark-items.ensures in
+    none_tested
+    (ap (λ x. iter_rest (zip_first x)) from ∙ ap iter_rest z.first ∙ c.iter.ensures.rest)
+    (ap (λ x. iter_rest (zip_second x)) from ∙ z.second.0)
+    c.if-marks-lengths.false
 
-pub loop-i-init : goal.loop-i-init
-loop-i-init c = (omega arith, omega arith, omega arith, refl)
+pub returns-then-mark-gt1 : goal.returns-then-mark-gt1
+returns-then-mark-gt1 c =
+    let h = c.loop-mark.invariant in
+    let s = c.in-Some.ensures.steps in
+    given_unfit _ _ _ (elim c.then-mark-gt1.branch [
+      | then-mark-gt1-via-then-mark-gt1 w ↦ unfit_mark h s.0 s.1 (omega arith)
+      | then-mark-gt1-via-else-mark-gt1+then-length-gt-LONGEST w ↦ unfit_size h s.0 s.1 (omega arith)
+    ])
 
-pub returns-then-marks-i-gt1 : goal.returns-then-marks-i-gt1
-returns-then-marks-i-gt1 c = given-unfit _ _ _ (sym c.loop-i.invariant.3 ∙ pair-unfit-mark c.args.marks.now c.args.lengths.now c.loop-i.i (omega arith) (omega arith) (omega arith))
+pub overflow_add-total : goal.overflow_add-total
+overflow_add-total c = let h = c.loop-mark.invariant in omega (arith, h.most)
 
-pub returns-then-lengths-i-gt37 : goal.returns-then-lengths-i-gt37
-returns-then-lengths-i-gt37 c = given-unfit _ _ _ (sym c.loop-i.invariant.3 ∙ pair-unfit-length c.args.marks.now c.args.lengths.now c.loop-i.i (omega arith) (omega arith) (omega arith))
-
-pub loop-i-preserved : goal.loop-i-preserved
-loop-i-preserved c = let at = sum_more c.args.lengths.now c.loop-i.i (omega arith) in
-    (omega arith, omega arith, omega arith, pair_fits c.args.marks.now c.args.lengths.now c.loop-i.i (omega arith) (omega arith) (omega arith) (omega arith) ∙ c.loop-i.invariant.3)
+pub loop-mark-preserved : goal.loop-mark-preserved
+loop-mark-preserved c =
+    let h = c.loop-mark.invariant in
+    let s = c.in-Some.ensures.steps in
+    rw c.from-total.ensures (more h s.0 s.1 (omega arith) (omega arith))
 
 pub returns : goal.returns
-returns c = given_told c.args.marks.now c.args.lengths.now c.args.bodies.now c.loop-i.total c.if-n-lengths.false (omega arith) (sym c.loop-i.invariant.3 ∙ pairs_end c.args.marks.now c.args.lengths.now c.loop-i.i (omega arith)) (omega (arith, sum_end c.args.lengths.now c.loop-i.i (omega arith)))
+returns c =
+    let h = c.loop-mark.invariant in
+    let all = all_tested _ _ _ _ h (either_empty_from_Zip c.loop-mark.mark-iterator c.next.new.self c.next.result c.in-None.is c.next.ensures.steps) in
+    given_told _ _ _ _ c.if-marks-lengths.false (omega arith) all.0 all.1

@@ -1,13 +1,8 @@
 -- `put_rows` meets its contract: the stores left, after those made, are the stores asked. Assumes nothing.
-use mathlib.Core.Path.{◌≡◌}
-use Prim.Native.Nat.{◌≤◌, ◌+◌, ◌*◌, ◌-◌}
-use lib.ListN.{length, drop}
-use lib.Seq.{sets}
-use Rattle.capture_writer.specs.Writer.{interleaved}
+use Rattle.std.specs.Iterator.Adapters.{zip_first, zip_second}
+use Rattle.std.specs.Slice.Iter.{iter_rest}
+use Rattle.capture_writer.proofs.Given.{Stored}
 use Rattle.capture_writer.proofs.put_rows.Given as goal
 
-abbrev pub invariant-loop-i : goal.invariant-loop-i
-invariant-loop-i l = (l.i ≤ length l.marks) × (l.at ≡ 2 * l.i + 1) × (length l.room ≡ length l.initial.room) × (sets l.room l.at (interleaved (drop l.i l.marks) (drop l.i l.lengths)) ≡ sets l.initial.room 1 (interleaved l.marks l.lengths))
-
-abbrev pub decreases-loop-i : goal.decreases-loop-i
-decreases-loop-i l = length l.marks - l.i
+abbrev pub invariant-loop-mark : goal.invariant-loop-mark
+invariant-loop-mark l = Stored l.marks l.lengths (iter_rest (zip_first l.mark-iterator)) (iter_rest (zip_second l.mark-iterator)) l.initial.room l.room l.at
