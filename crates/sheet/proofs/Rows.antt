@@ -50,21 +50,22 @@ reach ks zero s at low end e = omega (arith, eqb-true end (length s) e)
 reach ks (suc n) s at low end e = omega (arith, reach ks n s (at + 4) (tag_at s at + 1) (end + length_at s at) (first_right ks n s at low end e).1)
 
 -- i of n rows are passed, and the test of the rest is the test of all
-module _ (ks : List TagKind) (s : List ℕ) (n i at low end first : ℕ) (inv : rows_ok ks (n - i) s at low end ≡ rows_ok ks n s 1 0 first) where
-  more : i < n → rows_ok ks n s 1 0 first ≡ rows_ok ks (suc (n - (i + 1))) s at low end
-  more h = let z : n - i ≡ suc (n - (i + 1)) = omega arith in sym inv ∙ ap (λ (k : ℕ). rows_ok ks k s at low end) z
+module _ (ks : List TagKind) (s : List ℕ) (n i low end first : ℕ) (inv : rows_ok ks (n - i) s (1 + 4 * i) low end ≡ rows_ok ks n s 1 0 first) where
+  more : i < n → rows_ok ks n s 1 0 first ≡ rows_ok ks (suc (n - (i + 1))) s (1 + 4 * i) low end
+  more h = let z : n - i ≡ suc (n - (i + 1)) = omega arith in sym inv ∙ ap (λ (k : ℕ). rows_ok ks k s (1 + 4 * i) low end) z
 
-  pub row-bad : i < n → row_ok ks s at low end ≡ false → rows_ok ks n s 1 0 first ≡ false
+  pub row-bad : i < n → row_ok ks s (1 + 4 * i) low end ≡ false → rows_ok ks n s 1 0 first ≡ false
   unfolding rows_ok
   row-bad h e = more h ∙ rw e
 
-  pub row-good : (t l : ℕ) → i < n → row_ok ks s at low end ≡ true → t ≡ tag_at s at → l ≡ length_at s at → rows_ok ks (n - (i + 1)) s (at + 4) (t + 1) (end + l) ≡ rows_ok ks n s 1 0 first
+  pub row-good : (t l : ℕ) → i < n → row_ok ks s (1 + 4 * i) low end ≡ true → t ≡ tag_at s (1 + 4 * i) → l ≡ length_at s (1 + 4 * i)
+      → rows_ok ks (n - (i + 1)) s (1 + 4 * (i + 1)) (t + 1) (end + l) ≡ rows_ok ks n s 1 0 first
   unfolding rows_ok
-  row-good t l h e et el = sym (more h ∙ rw (e, et, el))
+  row-good t l h e et el = let z : 1 + 4 * (i + 1) ≡ 1 + 4 * i + 4 = omega arith in rw z (sym (more h ∙ rw (e, et, el)))
 
   pub rows_end : n ≤ i → rows_ok ks n s 1 0 first ≡ eqb end (length s)
   unfolding rows_ok
-  rows_end h = let z : n - i ≡ 0 = omega arith in sym inv ∙ ap (λ (k : ℕ). rows_ok ks k s at low end) z
+  rows_end h = let z : n - i ≡ 0 = omega arith in sym inv ∙ ap (λ (k : ℕ). rows_ok ks k s (1 + 4 * i) low end) z
 
 pub rows_start : (ks : List TagKind) (n : ℕ) (s : List ℕ) (first : ℕ) → rows_ok ks (n - 0) s 1 0 first ≡ rows_ok ks n s 1 0 first
 rows_start ks n s first = let z : n - 0 ≡ n = omega arith in ap (λ (k : ℕ). rows_ok ks k s 1 0 first) z

@@ -19,7 +19,7 @@ names (suc (suc (suc zero))) l h = simp (le-leb 0 l (omega arith))
 names (suc (suc (suc (suc k)))) l h = absurd (omega arith)
 
 module _ (t l : ℕ) where
-  no-others : (0x20 ≤ t → t ≤ 0x23 → ⊥) → allows old.kinds t l ≡ false
+  pub no-others : (0x20 ≤ t → t ≤ 0x23 → ⊥) → allows old.kinds t l ≡ false
   unfolding old allows
   no-others h =
       simp (ne_eqb 0x20 t (λ e. h (omega arith) (omega arith)), ne_eqb 0x21 t (λ e. h (omega arith) (omega arith)), ne_eqb 0x22 t (λ e. h (omega arith) (omega arith)), ne_eqb 0x23 t (λ e. h (omega arith) (omega arith)))

@@ -5,17 +5,18 @@ ghost use Rattle.std.specs.Prelude.{◌≡◌, true, ◌+◌, ◌*◌, ◌<◌, 
 ghost use Rattle.sheet.specs.Sheet.{old, allows, row_ok, is_sheet};
 ghost use Rattle.sheet.specs.Block.{find_in, located_of, part_of, place_of, block_of, block_answer};
 
+use refusals::Refusal;
+
 // Where the body of a tag lies in a sheet: from its first byte to past its last.
 #[derive(Clone, Copy)]
-enum Found {
-    At(usize, usize),
-    Nothing,
+struct Span {
+    start: usize,
+    end: usize,
 }
 
-// Where a block name lies: the answer, whether in the factory sheet, from its first byte to past its last.
+// Where a block name lies: whether in the factory sheet, from its first byte to past its last.
 #[derive(Clone, Copy)]
 pub struct Located {
-    pub answer: u8,
     pub factory: bool,
     pub start: usize,
     pub end: usize,
@@ -25,7 +26,10 @@ pub struct Located {
 fn allowed(tag: u8, length: u8) -> bool
     ensures { result ≡ allows old.kinds tag length }
 {
-    (0x20 <= tag) & (tag <= 0x23) & (length <= 32)
+    match tag {
+        0x20..=0x23 => length <= 32,
+        _ => false,
+    }
 }
 
 // Whether the row that starts at `at` may stand where the tags from `low` on are free and the body before it ends at `end`.
@@ -33,13 +37,9 @@ fn row_ok(s: &[u8], at: usize, low: usize, end: usize) -> bool
     requires { at + 4 ≤ length s.now }
     ensures { result ≡ row_ok old.kinds s.now at low end }
 {
-    if rooms::wide(s[at]) < low {
-        return false;
-    }
-    if !allowed(s[at], s[at + 1]) {
-        return false;
-    }
-    rooms::offset(s[at + 2], s[at + 3]) == end
+    low <= usize::from(s[at])
+        && allowed(s[at], s[at + 1])
+        && rooms::offset(s[at + 2], s[at + 3]) == end
 }
 
 // Whether bytes are a sheet.
@@ -50,93 +50,69 @@ pub fn is_sheet(bytes: &[u8]) -> bool
     if size == 0 {
         return false;
     }
-    let n = rooms::wide(bytes[0]);
-    if 4 < n {
+    let n = usize::from(bytes[0]);
+    let first = 1 + 4 * n;
+    if 4 < n || size < first {
         return false;
     }
-    let first = 1 + (n << 2);
-    if size < first {
-        return false;
-    }
-    let mut i = 0;
-    let mut at: usize = 1;
-    let mut low: usize = 0;
+    let mut low = 0;
     let mut end = first;
-    while i < n {
+    for i in 0..n {
+        let at = 1 + 4 * i;
         if !row_ok(bytes, at, low, end) {
             return false;
         }
-        low = rooms::wide(bytes[at]) + 1;
-        end += rooms::wide(bytes[at + 1]);
-        at += 4;
-        i += 1;
+        low = usize::from(bytes[at]) + 1;
+        end += usize::from(bytes[at + 1]);
     }
     end == size
 }
 
 // Where a sheet has the body of a tag.
-fn find(sheet: &[u8], tag: u8) -> Found
+fn find(sheet: &[u8], tag: u8) -> Option<Span>
     requires { is_sheet sheet.now ≡ true }
     ensures { result ≡ find_in sheet.now tag }
 {
-    let n = rooms::wide(sheet[0]);
-    let mut i = 0;
-    let mut at: usize = 1;
-    while i < n {
+    for i in 0..usize::from(sheet[0]) {
+        let at = 1 + 4 * i;
         if sheet[at] == tag {
             let start = rooms::offset(sheet[at + 2], sheet[at + 3]);
-            return Found::At(start, start + rooms::wide(sheet[at + 1]));
+            let end = start + usize::from(sheet[at + 1]);
+            return Some(Span { start, end });
         }
-        at += 4;
-        i += 1;
     }
-    Found::Nothing
+    None
 }
 
-// The part of the two sheets that is the block name of a tag; 9 and zeros where a sheet is bad.
-pub fn locate(service: &[u8], factory: &[u8], tag: u8) -> Located
+// The part of the two sheets that is the block name of a tag.
+pub fn locate(service: &[u8], factory: &[u8], tag: u8) -> Result<Located, Refusal>
     ensures { result ≡ located_of service.now factory.now tag }
 {
-    if !(is_sheet(service) & is_sheet(factory)) {
-        return Located {
-            answer: 9,
-            factory: false,
-            start: 0,
-            end: 0,
-        };
-    }
-    match find(service, tag) {
-        Found::At(start, end) => Located {
-            answer: 0,
+    block_answer(service, factory)?;
+    if let Some(Span { start, end }) = find(service, tag) {
+        return Ok(Located {
             factory: false,
             start,
             end,
-        },
-        Found::Nothing => match find(factory, tag) {
-            Found::At(start, end) => Located {
-                answer: 0,
-                factory: true,
-                start,
-                end,
-            },
-            Found::Nothing => Located {
-                answer: 0,
-                factory: true,
-                start: 0,
-                end: 0,
-            },
-        },
+        });
     }
+    let Span { start, end } = find(factory, tag).unwrap_or(Span { start: 0, end: 0 });
+    Ok(Located {
+        factory: true,
+        start,
+        end,
+    })
 }
 
-// The answer number of a block name: 9 where a sheet is bad.
-pub fn block_answer(service: &[u8], factory: &[u8]) -> u8
+// Whether two sheets have block names: refused where one is bad.
+pub fn block_answer(service: &[u8], factory: &[u8]) -> Result<(), Refusal>
     ensures { result ≡ block_answer service.now factory.now }
 {
-    if is_sheet(service) & is_sheet(factory) {
-        return 0;
+    if is_sheet(service) && is_sheet(factory) {
+        Ok(())
+    } else {
+        Err(Refusal::BadSheet)
     }
-    9
 }
 
 // The block name of a tag, as a part of the sheet that it comes from.
@@ -144,14 +120,9 @@ pub fn block<'a>(service: &'a [u8], factory: &'a [u8], tag: u8) -> &'a [u8]
     ensures result_value { result.now ≡ block_of service.now factory.now tag }
     ensures ref_ptr_value { result.ref_ptr ≡ place_of (part_of service.now factory.now tag) service.entry.ref_ptr factory.entry.ref_ptr }
 {
-    let found = locate(service, factory, tag);
-    let start = found.start;
-    let end = found.end;
-    if found.answer != 0 {
-        return &factory[0..0];
+    match locate(service, factory, tag) {
+        Ok(part) if part.factory => &factory[part.start..part.end],
+        Ok(part) => &service[part.start..part.end],
+        Err(_) => &factory[..0],
     }
-    if found.factory {
-        return &factory[start..end];
-    }
-    &service[start..end]
 }

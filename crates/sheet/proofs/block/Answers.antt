@@ -1,31 +1,41 @@
--- `block` meets its contract: the part that the numbers tell is the name, and stands at its place. Assumes nothing.
-use borrow.Author.Rules.{rules}
-use Rattle.sheet.proofs.Names.{told}
+-- `block` meets its contract: the part that is located is the name, and stands at its place. Assumes nothing.
+use Rattle.sheet.proofs.Names.{Told, told, told_bad}
 use Rattle.sheet.proofs.block.Goals as goal
+use Rattle.sheet.proofs.block.Goals.{In-Ok}
 
-pub returns-then-found-ne0 : goal.returns-then-found-ne0
-returns-then-found-ne0 c = record { result_value = ((told _ _ _ c.args.service.ref_ptr c.args.factory.ref_ptr c.locate-found.ensures).bad c.if-found-ne0.true).0; ref_ptr_value = ((told _ _ _ c.args.service.ref_ptr c.args.factory.ref_ptr c.locate-found.ensures).bad c.if-found-ne0.true).1 }
+-- what is told of the part that is located
+part : (c : In-Ok) → Told c.args.service.now c.args.factory.now c.args.tag c.args.service.ref_ptr c.args.factory.ref_ptr c.in-Ok.part
+part c = told _ _ _ _ _ c.in-Ok.ensures
 
-pub slice_bounds-result-count-then-found : goal.slice_bounds-result-count-then-found
-slice_bounds-result-count-then-found c = ((told _ _ _ (0, 0) (0, 0) c.locate-found.ensures).factory-in c.if-found.true).rises
+pub slice_bounds-result-count : goal.slice_bounds-result-count
+slice_bounds-result-count c = ((part (goal.at.slice_bounds-result-count c).In-Ok).factory-in c.if-part.true).rises
 
-pub slice_bounds-result-start-then-found : goal.slice_bounds-result-start-then-found
-slice_bounds-result-start-then-found c = ((told _ _ _ (0, 0) (0, 0) c.locate-found.ensures).factory-in c.if-found.true).rises
+pub slice_bounds-result-start : goal.slice_bounds-result-start
+slice_bounds-result-start c = ((part (goal.at.slice_bounds-result-start c).In-Ok).factory-in c.if-part.true).rises
 
-pub slice_bounds-result-end-then-found : goal.slice_bounds-result-end-then-found
-slice_bounds-result-end-then-found c = ((told _ _ _ (0, 0) (0, 0) c.locate-found.ensures).factory-in c.if-found.true).ends
+pub slice_bounds-result-end : goal.slice_bounds-result-end
+slice_bounds-result-end c = ((part (goal.at.slice_bounds-result-end c).In-Ok).factory-in c.if-part.true).ends
 
-pub returns-then-found : goal.returns-then-found
-returns-then-found c = record { result_value = ((told _ _ _ c.args.service.ref_ptr c.args.factory.ref_ptr c.locate-found.ensures).factory c.if-found.true).0; ref_ptr_value = ((told _ _ _ c.args.service.ref_ptr c.args.factory.ref_ptr c.locate-found.ensures).factory c.if-found.true).1 }
+pub returns-in-Ok : goal.returns-in-Ok
+returns-in-Ok c =
+    let n = (part (goal.at.returns-in-Ok c).In-Ok).factory c.if-part.true in
+    record { result_value = n.0; ref_ptr_value = n.1 }
 
-pub slice_bounds-result-count-2 : goal.slice_bounds-result-count-2
-slice_bounds-result-count-2 c = ((told _ _ _ (0, 0) (0, 0) c.locate-found.ensures).service-in c.if-found-ne0.false c.if-found.false).rises
+pub slice_bounds-result-count-in-Ok-2 : goal.slice_bounds-result-count-in-Ok-2
+slice_bounds-result-count-in-Ok-2 c = ((part (goal.at.slice_bounds-result-count-in-Ok-2 c).In-Ok).service-in c.if-part.false).rises
 
-pub slice_bounds-result-start-2 : goal.slice_bounds-result-start-2
-slice_bounds-result-start-2 c = ((told _ _ _ (0, 0) (0, 0) c.locate-found.ensures).service-in c.if-found-ne0.false c.if-found.false).rises
+pub slice_bounds-result-start-in-Ok-2 : goal.slice_bounds-result-start-in-Ok-2
+slice_bounds-result-start-in-Ok-2 c = ((part (goal.at.slice_bounds-result-start-in-Ok-2 c).In-Ok).service-in c.if-part.false).rises
 
-pub slice_bounds-result-end-2 : goal.slice_bounds-result-end-2
-slice_bounds-result-end-2 c = ((told _ _ _ (0, 0) (0, 0) c.locate-found.ensures).service-in c.if-found-ne0.false c.if-found.false).ends
+pub slice_bounds-result-end-in-Ok-2 : goal.slice_bounds-result-end-in-Ok-2
+slice_bounds-result-end-in-Ok-2 c = ((part (goal.at.slice_bounds-result-end-in-Ok-2 c).In-Ok).service-in c.if-part.false).ends
 
-pub returns : goal.returns
-returns c = record { result_value = ((told _ _ _ c.args.service.ref_ptr c.args.factory.ref_ptr c.locate-found.ensures).service c.if-found-ne0.false c.if-found.false).0; ref_ptr_value = ((told _ _ _ c.args.service.ref_ptr c.args.factory.ref_ptr c.locate-found.ensures).service c.if-found-ne0.false c.if-found.false).1 }
+pub returns-in-Ok-2 : goal.returns-in-Ok-2
+returns-in-Ok-2 c =
+    let n = (part (goal.at.returns-in-Ok-2 c).In-Ok).service c.if-part.false in
+    record { result_value = n.0; ref_ptr_value = n.1 }
+
+pub returns-in-Err : goal.returns-in-Err
+returns-in-Err c =
+    let n = told_bad _ _ _ c.args.service.ref_ptr c.args.factory.ref_ptr c.in-Err.ensures in
+    record { result_value = n.0; ref_ptr_value = n.1 }

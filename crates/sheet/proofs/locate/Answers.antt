@@ -1,26 +1,29 @@
 -- `locate` meets its contract: each return is a case of where the tag is listed. Assumes nothing.
-use mathlib.Core.Path.{◌≡◌, refl, sym, ◌∙◌}
-use mathlib.Core.Bool.{true}
-use borrow.Author.Rules.{rules}
-use borrow.Author.Tests.{not-true, not-false}
-use Rattle.sheet.specs.Block.{good_sheets}
-use Rattle.sheet.proofs.Names.{good_told, both, refused, located}
+use Rattle.std.proofs.Common.{◌≡◌, Ok, refl, sym, ◌∙◌}
+use Rattle.sheet.specs.Block.{block_answer}
+use Rattle.std.proofs.lemmas.Result.{err_from_is_err_and}
+use Rattle.sheet.proofs.Names.{good_by, both, not_located, located, from_factory}
 use Rattle.sheet.proofs.locate.Goals as goal
+use Rattle.sheet.proofs.locate.Goals.{In_ok-block_answer}
 
-pub returns-then-not-is_sheet : goal.returns-then-not-is_sheet
-returns-then-not-is_sheet c = refused _ _ _ (good_told _ _ _ _ c.is_sheet.ensures c.is_sheet-2.ensures ∙ c.if-not-is_sheet.true)
+pub returns-in_err-block_answer : goal.returns-in_err-block_answer
+returns-in_err-block_answer c =
+    let p = err_from_is_err_and c.from_residual.result c.from_residual.ensures.1 in
+    rw (p.1, p.2) (not_located _ _ _ c.in_err-block_answer.ensures)
+
+-- past the test both are sheets
+good : (c : In_ok-block_answer) → block_answer c.args.service.now c.args.factory.now ≡ Ok (tt {0})
+good c = sym c.in_ok-block_answer.ensures
 
 pub find-requires : goal.find-requires
-find-requires c = (both _ _ ((good_told _ _ _ _ c.is_sheet.ensures c.is_sheet-2.ensures ∙ c.if-not-is_sheet.false))).0
+find-requires c = (both _ _ (good_by _ _ (good c))).0
 
-pub find-requires-in-Nothing : goal.find-requires-in-Nothing
-find-requires-in-Nothing c = (both _ _ ((good_told _ _ _ _ c.is_sheet.ensures c.is_sheet-2.ensures ∙ c.if-not-is_sheet.false))).1
+pub find-requires-2 : goal.find-requires-2
+find-requires-2 c = (both _ _ (good_by _ _ (good (goal.at.find-requires-2 c).In_ok-block_answer))).1
 
-pub returns-in-At : goal.returns-in-At
-returns-in-At c = located _ _ _ ((good_told _ _ _ _ c.is_sheet.ensures c.is_sheet-2.ensures ∙ c.if-not-is_sheet.false)) _ _ (sym c.find.ensures ∙ c.in-At.is) refl
+pub returns-in-Some : goal.returns-in-Some
+returns-in-Some c = located _ _ _ (good (goal.at.returns-in-Some c).In_ok-block_answer) _ _ (sym c.find.ensures ∙ c.in-Some.is) refl
 
-pub returns-in-At-find : goal.returns-in-At-find
-returns-in-At-find c = located _ _ _ ((good_told _ _ _ _ c.is_sheet.ensures c.is_sheet-2.ensures ∙ c.if-not-is_sheet.false)) _ _ (sym c.find.ensures ∙ c.in-Nothing.is) (sym c.find-in-Nothing.ensures ∙ c.in-At-find.is)
-
-pub returns-in-Nothing-find : goal.returns-in-Nothing-find
-returns-in-Nothing-find c = located _ _ _ ((good_told _ _ _ _ c.is_sheet.ensures c.is_sheet-2.ensures ∙ c.if-not-is_sheet.false)) _ _ (sym c.find.ensures ∙ c.in-Nothing.is) (sym c.find-in-Nothing.ensures ∙ c.in-Nothing-find.is)
+pub returns : goal.returns
+returns c =
+    from_factory _ _ _ (good (goal.at.returns c).In_ok-block_answer) (sym c.in_default.ensures) _ _ (sym c.find-2.ensures) c.unwrap_or-start.ensures
