@@ -1,9 +1,15 @@
 -- Entries laid into a room one after another. Definitions: assumes nothing.
-use Rattle.std.specs.Prelude.{◌≡◌, true, List, ℕ, ◌+◌, ◌*◌, ◌≤◌, ◌<◌, length}
+use Rattle.std.specs.Prelude.{◌≡◌, Bool, true, List, ℕ, ◌+◌, ◌*◌, ◌≤◌, ◌<◌, leb, length}
+use Rattle.std.proofs.Math.Option.{Option, none, some}
 use Rattle.std.proofs.lemmas.List.Edits.{sets}
 use Rattle.sheet.specs.Sheet.{Entry, rows_of, bodies_of}
 use Rattle.sheet_writer.specs.declared.Cursor.{Cursor}
 use Rattle.sheet_writer.specs.Writing.{short}
+
+-- a body, if there is one, has at most 32 bytes
+abbrev pub short_body : Option (List ℕ) → Bool
+short_body (some body) = leb (length body) 32
+short_body none = true
 
 -- there is place for the entries' rows before the bodies, for their bodies in the room, and for their offsets in two bytes
 pub record Place (room : List ℕ) (at : Cursor) (es : List Entry) : Type 0 where

@@ -1,11 +1,12 @@
 // The writer of pack sheets: a body or none for each of the tags 20 to 23, laid into a lent room.
 #![tactic(auto)]
 
-ghost use Rattle.std.specs.Prelude.{◌≡◌, cond, not, ◌||◌, ◌≤◌, leb, length};
-ghost use Rattle.sheet_writer.specs.Writing.{entry_if, choice, sheet_wrote, sheet_room};
-ghost use Rattle.sheet_writer.specs.Laying.{Place, Put};
+ghost use Rattle.std.specs.Prelude.{◌≡◌, count_by, is_some};
+ghost use Rattle.std.specs.List.{list_all};
+ghost use Rattle.sheet_writer.specs.Writing.{given, entry_if, choice, sheet_wrote, sheet_room};
+ghost use Rattle.sheet_writer.specs.Laying.{short_body, Place, Put};
 
-use rooms::Wrote;
+use refusals::Refusal;
 
 // Where the next row is written, and where the next body starts.
 #[derive(Clone, Copy)]
@@ -15,85 +16,67 @@ struct Cursor {
 }
 
 // Whether a body, if there is one, has at most 32 bytes.
-fn short_body(has: bool, body: &[u8]) -> bool
-    ensures { result ≡ not has || leb (length body.now) 32 }
+fn short_body(body: Option<&[u8]>) -> bool
+    ensures { result ≡ short_body (given body.entry) }
 {
-    !has | (body.len() <= 32)
+    body.is_none_or(|body| body.len() <= 32)
 }
 
-fn one_if(has: bool) -> usize
-    ensures { (result ≡ cond has 1 0) × (result ≤ 1) }
+// Whether each body that there is has at most 32 bytes.
+fn all_short(bodies: &[Option<&[u8]>]) -> bool
+    ensures { result ≡ list_all (λ body. short_body (given body)) bodies.now }
 {
-    if has {
-        return 1;
-    }
-    0
+    bodies.iter().all(|body| short_body(*body))
 }
 
-// 12, unless the sheet can be written.
-fn answer_if(writable: bool) -> u8
-    ensures { result ≡ cond writable 0 12 }
+// How many bodies there are.
+fn count_of(bodies: &[Option<&[u8]>]) -> usize
+    ensures { result ≡ count_by (λ body. is_some body) bodies.now }
 {
-    if writable {
-        return 0;
-    }
-    12
+    bodies.iter().filter(|body| body.is_some()).count()
 }
 
 // The row and the body of a tag, if it has one.
-fn put_entry(room: &mut [u8], at: Cursor, tag: u8, has: bool, body: &[u8]) -> Cursor
-    requires { Place room.old at (entry_if tag has body.now) }
-    ensures { Put room.old at (entry_if tag has body.now) room.new result }
+fn put_entry(room: &mut [u8], at: Cursor, tag: u8, body: Option<&[u8]>) -> Cursor
+    requires { Place room.old at (entry_if tag (given body)) }
+    ensures { Put room.old at (entry_if tag (given body.entry)) room.new result }
 {
-    if has {
-        let row = at.row;
-        let end = at.end;
-        room[row] = tag;
-        room[row + 1] = body.len() as u8;
-        room[row + 2] = (end % 256) as u8;
-        room[row + 3] = (end / 256) as u8;
-        rooms::put_bytes(room, end, body);
-        return Cursor {
-            row: row + 4,
-            end: end + body.len(),
-        };
+    let Some(body) = body else {
+        return at;
+    };
+    let [low, high] = (at.end as u16).to_le_bytes();
+    rooms::put_bytes(room, at.row, &[tag, body.len() as u8, low, high]);
+    rooms::put_bytes(room, at.end, body);
+    Cursor {
+        row: at.row + 4,
+        end: at.end + body.len(),
     }
-    at
 }
 
 // A sheet of the bodies that there are, at the front of the room.
 pub fn write_sheet(
     room: &mut [u8],
-    has20: bool,
-    body20: &[u8],
-    has21: bool,
-    body21: &[u8],
-    has22: bool,
-    body22: &[u8],
-    has23: bool,
-    body23: &[u8],
-) -> Wrote
-    ensures value { result ≡ sheet_wrote (choice has20 body20.now has21 body21.now has22 body22.now has23 body23.now) room.old }
-    ensures room_after { room.new ≡ sheet_room (choice has20 body20.now has21 body21.now has22 body22.now has23 body23.now) room.old }
+    body20: Option<&[u8]>,
+    body21: Option<&[u8]>,
+    body22: Option<&[u8]>,
+    body23: Option<&[u8]>,
+) -> Result<usize, Refusal>
+    ensures value { result ≡ sheet_wrote (choice (given body20.entry) (given body21.entry) (given body22.entry) (given body23.entry)) room.old }
+    ensures room_after { room.new ≡ sheet_room (choice (given body20.entry) (given body21.entry) (given body22.entry) (given body23.entry)) room.old }
 {
-    let lower = short_body(has20, body20) & short_body(has21, body21);
-    let upper = short_body(has22, body22) & short_body(has23, body23);
-    let answer = answer_if(lower & upper & (145 <= room.len()));
-    if answer != 0 {
-        return Wrote { answer, length: 0 };
+    let bodies = [body20, body21, body22, body23];
+    if !all_short(&bodies) || room.len() < 145 {
+        return Err(Refusal::NoFit);
     }
-    let n = one_if(has20) + one_if(has21) + one_if(has22) + one_if(has23);
+    let n = count_of(&bodies);
     room[0] = n as u8;
     let start = Cursor {
         row: 1,
-        end: 1 + (n << 2),
+        end: 1 + 4 * n,
     };
-    let past20 = put_entry(room, start, 0x20, has20, body20);
-    let past21 = put_entry(room, past20, 0x21, has21, body21);
-    let past22 = put_entry(room, past21, 0x22, has22, body22);
-    let past23 = put_entry(room, past22, 0x23, has23, body23);
-    Wrote {
-        answer,
-        length: past23.end,
-    }
+    let past20 = put_entry(room, start, 0x20, body20);
+    let past21 = put_entry(room, past20, 0x21, body21);
+    let past22 = put_entry(room, past21, 0x22, body22);
+    let past23 = put_entry(room, past22, 0x23, body23);
+    Ok(past23.end)
 }

@@ -1,78 +1,74 @@
--- `write_sheet` meets its contract: the test is that the choice can be written, and past each call there is place for the entries that are left. Assumes nothing.
-use Rattle.std.proofs.Common.{◌≡◌, cond, not, ◌||◌, ◌&&◌, leb, length, ℕ, ◌+◌, ◌*◌, ◌%◌, ◌^◌, Bool, true, List, ◌++◌, ap, ◌∙◌, arith}
+-- `write_sheet` meets its contract: past each call there is place for the entries that are left. Assumes nothing.
+use denote.Bor.{Bor}
+use Rattle.std.specs.Prelude
+use Rattle.std.proofs.Common.{◌≡◌, ◌⊎◌, inl, inr, cond, false, true, is_some, Some, None, count_by, length, ℕ, ◌<◌, ◌+◌, ◌*◌, List, [], ◌∷◌, ◌++◌, Bool, sym, refl, ◌∙◌, arith}
+use Rattle.std.proofs.Math.Option.{Option}
 use lib.ListN.{set}
 use Rattle.sheet.specs.Sheet.{Entry}
 use Rattle.sheet_writer.specs.declared.Cursor.{Cursor}
-use Rattle.sheet_writer.specs.Writing.{entry_if, choice, writable, sheet_wrote, sheet_room}
+use Rattle.sheet_writer.specs.Writing.{given, entry_if, choice, short, writable}
 use Rattle.sheet_writer.specs.Laying.{Place, Put}
-use Rattle.sheet_writer.proofs.Laid.{choice-short, choice-count, choice-few, refused, allowed, place-all, place-past, joined, written}
+use Rattle.refusals.specs.declared.Refusal.TheVariants.{NoFit}
+use Rattle.sheet_writer.proofs.Laid.{choice-short, choice-count, choice-few, Owed, refused, allowed, place-all, place-past, joined, written}
 use Rattle.sheet_writer.proofs.write_sheet.Goals as goal
 
-module _ (h : Bool) (b : List ℕ) (i : Bool) (d : List ℕ) (j : Bool) (f : List ℕ) (k : Bool) (g : List ℕ) (room : List ℕ) where
+-- a body that there is makes an entry
+one_counted : (tag : ℕ) (b : Prelude.Option (Bor (List ℕ))) → cond (is_some b) 1 0 ≡ length (entry_if tag (given b))
+one_counted tag (Some body) = refl
+one_counted tag None = refl
+
+-- byte n counts the entries
+counted : (b c d e : Prelude.Option (Bor (List ℕ))) (n : ℕ) → n ≡ count_by (λ body. is_some body) (b ∷ c ∷ d ∷ e ∷ []) → n ≡ length (choice (given b) (given c) (given d) (given e))
+counted b c d e n is = omega (arith, is, choice-count (given b) (given c) (given d) (given e), one_counted 0x20 b, one_counted 0x21 c, one_counted 0x22 d, one_counted 0x23 e)
+
+module _ (b c d e : Option (List ℕ)) (room : List ℕ) where
   -- the entries, from each tag on
   abbrev from23 : List Entry
-  from23 = entry_if 0x23 k g
+  from23 = entry_if 0x23 e
 
   abbrev from22 : List Entry
-  from22 = entry_if 0x22 j f ++ from23
+  from22 = entry_if 0x22 d ++ from23
 
   abbrev from21 : List Entry
-  from21 = entry_if 0x21 i d ++ from22
+  from21 = entry_if 0x21 c ++ from22
 
   abbrev from20 : List Entry
-  from20 = choice h b i d j f k g
-
-  -- the test is that they can be written
-  tested : {p q r s : Bool} → p ≡ not h || leb (length b) 32 → q ≡ not i || leb (length d) 32 → r ≡ not j || leb (length f) 32 → s ≡ not k || leb (length g) 32
-      → (p && q) && (r && s) && leb 145 (length room) ≡ writable from20 room
-  unfolding writable
-  tested e20 e21 e22 e23 = rw (e20, e21, e22, e23, choice-short h b i d j f k g)
-
-  answered : {a : ℕ} {p q r s : Bool} → a ≡ cond ((p && q) && (r && s) && leb 145 (length room)) 0 12
-      → p ≡ not h || leb (length b) 32 → q ≡ not i || leb (length d) 32 → r ≡ not j || leb (length f) 32 → s ≡ not k || leb (length g) 32
-      → a ≡ cond (writable from20 room) 0 12
-  answered e e20 e21 e22 e23 = e ∙ ap (λ (t : Bool). cond t 0 12) (tested e20 e21 e22 e23)
-
-  -- byte n counts them
-  counted : {n20 n21 n22 n23 : ℕ} → (n20 ≡ cond h 1 0) → (n21 ≡ cond i 1 0) → (n22 ≡ cond j 1 0) → (n23 ≡ cond k 1 0) → n20 + n21 + n22 + n23 ≡ length from20
-  counted e20 e21 e22 e23 = omega (arith, choice-count h b i d j f k g)
+  from20 = choice b c d e
 
   module _ (ok : writable from20 room ≡ true) (n : ℕ) (count : n ≡ length from20) where
     abbrev start : Cursor
-    start = record { row = 1; end = 1 + n * 2 ^ 2 % 2 ^ 64 }
+    start = record { row = 1; end = 1 + 4 * n }
 
     -- there is place for them, and past each call for those that are left
-    place20 : Place (set room 0 n) start from20
-    place20 = place-all from20 room (choice-few h b i d j f k g) ok n count
+    all : {m20 m21 m22 m23 : List ℕ} {at21 at22 at23 last : Cursor}
+        → Put (set room 0 n) start (entry_if 0x20 b) m20 at21 → Put m20 at21 (entry_if 0x21 c) m21 at22 → Put m21 at22 (entry_if 0x22 d) m22 at23 → Put m22 at23 (entry_if 0x23 e) m23 last
+        → Owed from20 room (Prelude.Ok last.end) m23
+    all {m20} {m21} {m22} {m23} {at21} {at22} {at23} {last} one two three four =
+        let p20 : Place (set room 0 n) start from20 = place-all from20 room (choice-few b c d e) ok n count in
+        let p21 : Place m20 at21 from21 = place-past (set room 0 n) start (entry_if 0x20 b) from21 p20 one in
+        let p22 : Place m21 at22 from22 = place-past m20 at21 (entry_if 0x21 c) from22 p21 two in
+        written from20 room (choice-few b c d e) ok n count
+        (joined (set room 0 n) start (entry_if 0x20 b) from21 p20 one
+        (joined m20 at21 (entry_if 0x21 c) from22 p21 two
+        (joined m21 at22 (entry_if 0x22 d) from23 p22 three four)))
 
-    place21 : {m : List ℕ} {next : Cursor} → Put (set room 0 n) start (entry_if 0x20 h b) m next → Place m next from21
-    place21 one = place-past (set room 0 n) start (entry_if 0x20 h b) from21 place20 one
+  refusal : {all : Bool} → all ≡ short from20 → (all ≡ false) ⊎ ((all ≡ true) × (length room < 145)) → Owed from20 room (Prelude.Err NoFit) room
+  refusal is (inl long) = refused from20 room (inl (sym is ∙ long))
+  refusal is (inr small) = refused from20 room (inr small.1)
 
-    all : {m20 m21 m22 m23 : List ℕ} {at21 at22 at23 last : Cursor} {a : ℕ} → a ≡ 0
-        → Put (set room 0 n) start (entry_if 0x20 h b) m20 at21 → Put m20 at21 (entry_if 0x21 i d) m21 at22 → Put m21 at22 (entry_if 0x22 j f) m22 at23 → Put m22 at23 (entry_if 0x23 k g) m23 last
-        → (record { answer = a; length = last.end } ≡ sheet_wrote from20 room) × (m23 ≡ sheet_room from20 room)
-    all {m20} {m21} {m22} {m23} {at21} {at22} {at23} {last} {a} z one two three four =
-        let p21 : Place m20 at21 from21 = place21 one in
-        let p22 : Place m21 at22 from22 = place-past m20 at21 (entry_if 0x21 i d) from22 p21 two in
-        let p23 : Place m22 at23 from23 = place-past m21 at22 (entry_if 0x22 j f) from23 p22 three in
-        written from20 room (choice-few h b i d j f k g) ok n count a z
-        (joined (set room 0 n) start (entry_if 0x20 h b) from21 place20 one
-        (joined m20 at21 (entry_if 0x21 i d) from22 p21 two
-        (joined m21 at22 (entry_if 0x22 j f) from23 p22 three four)))
-
-pub returns-then-answer-ne0 : goal.returns-then-answer-ne0
-returns-then-answer-ne0 c =
+pub returns-then-not-all_short : goal.returns-then-not-all_short
+returns-then-not-all_short c =
     let a = c.args in
-    let e = answered a.has20 a.body20.now a.has21 a.body21.now a.has22 a.body22.now a.has23 a.body23.now a.room.now c.answer_if-answer.ensures c.short_body.ensures c.short_body-2.ensures c.short_body-3.ensures c.short_body-4.ensures in
-    let r = refused (choice a.has20 a.body20.now a.has21 a.body21.now a.has22 a.body22.now a.has23 a.body23.now) a.room.now _ e c.if-answer-ne0.true in
+    let short_by = c.all_short.ensures ∙ sym (choice-short (given a.body20) (given a.body21) (given a.body22) (given a.body23)) in
+    let r = refusal (given a.body20) (given a.body21) (given a.body22) (given a.body23) a.room.now short_by c.then-not-all_short.either in
     record { value = r.0; room_after = r.1 }
 
 pub returns : goal.returns
 returns c =
     let a = c.args in
-    let es : List Entry = choice a.has20 a.body20.now a.has21 a.body21.now a.has22 a.body22.now a.has23 a.body23.now in
-    let e = answered a.has20 a.body20.now a.has21 a.body21.now a.has22 a.body22.now a.has23 a.body23.now a.room.now c.answer_if-answer.ensures c.short_body.ensures c.short_body-2.ensures c.short_body-3.ensures c.short_body-4.ensures in
-    let ok = allowed es a.room.now _ e c.if-answer-ne0.false in
-    let n = counted a.has20 a.body20.now a.has21 a.body21.now a.has22 a.body22.now a.has23 a.body23.now a.room.now c.one_if.ensures.0 c.one_if-2.ensures.0 c.one_if-3.ensures.0 c.one_if-4.ensures.0 in
-    let r = all a.has20 a.body20.now a.has21 a.body21.now a.has22 a.body22.now a.has23 a.body23.now a.room.now ok _ n c.if-answer-ne0.false c.put_entry-past20.ensures c.put_entry-past21.ensures c.put_entry-past22.ensures c.put_entry-past23.ensures in
+    let es : List Entry = choice (given a.body20) (given a.body21) (given a.body22) (given a.body23) in
+    let small = choice-short (given a.body20) (given a.body21) (given a.body22) (given a.body23) ∙ sym c.all_short.ensures ∙ c.if-not-all_short.false in
+    let ok = allowed es a.room.now small c.if-room-lt145.false in
+    let n = counted a.body20 a.body21 a.body22 a.body23 _ c.count_of-n.ensures in
+    let r = all (given a.body20) (given a.body21) (given a.body22) (given a.body23) a.room.now ok _ n c.put_entry-past20.ensures c.put_entry-past21.ensures c.put_entry-past22.ensures c.put_entry-past23.ensures in
     record { value = r.0; room_after = r.1 }
