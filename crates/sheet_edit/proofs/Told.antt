@@ -26,34 +26,33 @@ module _ (room : List ℕ) (stated tag size : ℕ) (bytes : (i : ℕ) → get_or
       searched = let F = at_front in omega (arith, rows_in F, F.few, w, count_is F, name_most tag P.name)
 
       module _ {p : Span} (s : p ≡ span_in (take stated room) k tag) where
-        pub span : Spanned at_front tag k p
+        abbrev pub span : Spanned at_front tag k p
         span = spanned at_front tag k p (w ∙ count_is at_front) s
 
         pub numbers : Sizes at_front tag span
         numbers = sizes at_front tag span
 
   -- past the look-up
-  module _ (f : Found) (e : Ok f ≡ tested room stated tag size (Ok (found_in room stated tag))) where
-    pub passes : Passed room stated tag size
-    passes = (passed room stated tag size (found_in room stated tag) (sym e)).0
-
-    is : f ≡ found_in room stated tag
-    is = (passed room stated tag size (found_in room stated tag) (sym e)).1
-
+  pub record Known (f : Found) : Type 0 where
+    pub tests : Passed room stated tag size
+    pub front_is : Front room stated
     pub rows_is : f.rows ≡ get_or room 0 0
-    unfolding found_in
-    rows_is = ap (λ (x : Found). x.rows) is
-
-    pub span_is : f.span ≡ span_in (take stated room) f.rows tag
-    unfolding found_in
-    span_is = ap (λ (x : Found). x.span) is ∙ ap (λ (k : ℕ). span_in (take stated room) k tag) (sym rows_is)
-
     pub left_is : f.left ≡ without stated f.span
-    unfolding found_in
-    left_is = ap (λ (x : Found). x.left) is ∙ ap (without stated) (sym (ap (λ (x : Found). x.span) is))
+    pub span_is : Spanned front_is tag f.rows f.span
+    pub sizes_are : Sizes front_is tag span_is
 
-    abbrev pub found_span : Spanned (at_front passes) tag f.rows f.span
-    found_span = span passes rows_is span_is
-
-    pub found_numbers : Sizes (at_front passes) tag found_span
-    found_numbers = numbers passes rows_is span_is
+  pub known : (f : Found) → Ok f ≡ tested room stated tag size (Ok (found_in room stated tag)) → Known f
+  unfolding found_in
+  known f e =
+      let p = passed room stated tag size (found_in room stated tag) (sym e) in
+      let rows : f.rows ≡ get_or room 0 0 = ap (λ (x : Found). x.rows) p.1 in
+      let span : f.span ≡ span_in (take stated room) f.rows tag = ap (λ (x : Found). x.span) p.1 ∙ ap (λ (k : ℕ). span_in (take stated room) k tag) (sym rows) in
+      let S : Spanned (at_front p.0) tag f.rows f.span = spanned (at_front p.0) tag f.rows f.span (rows ∙ count_is (at_front p.0)) span in
+      record {
+        tests = p.0;
+        front_is = at_front p.0;
+        rows_is = rows;
+        left_is = ap (λ (x : Found). x.left) p.1 ∙ ap (without stated) (sym (ap (λ (x : Found). x.span) p.1));
+        span_is = S;
+        sizes_are = sizes (at_front p.0) tag S;
+      }

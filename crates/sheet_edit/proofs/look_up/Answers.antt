@@ -65,4 +65,4 @@ pub returns : goal.returns
 unfolding found_in
 returns c =
     let P = (passed c.args.room.now c.args.stated c.args.tag c.args.size tt (sym c.in_ok-tested.ensures)).0 in
-    rw (c.rows_size.ensures, c.span_of-span.ensures, c.from-rows.ensures) (sym (go_on c.args.room.now c.args.stated c.args.tag P))
+    rw (c.rows_size.ensures, c.span_of-span.ensures, c.from-rows.ensures, go_on c.args.room.now c.args.stated c.args.tag P)

@@ -4,7 +4,7 @@ use mathlib.Core.Option.{none}
 use native.Mathlib.Omega.{arith}
 use Rattle.std.proofs.lemmas.Result.{err_from_is_err_and}
 use Rattle.sheet_edit.proofs.Answers.{refused, served}
-use Rattle.sheet_edit.proofs.Told.{passes, rows_is, left_is, found_span, found_numbers}
+use Rattle.sheet_edit.proofs.Told.{known}
 use Rattle.sheet_edit.proofs.Whole.{removed-size, removed}
 use Rattle.sheet_edit.proofs.remove.Goals as goal
 
@@ -16,17 +16,15 @@ returns-in_err-rows c =
 
 pub take_out-requires : goal.take_out-requires
 take_out-requires c =
-    let z = found_numbers c.args.room.now c.args.stated c.args.tag 0 (λ i. grind arith) _ c.in_ok-rows.ensures in
+    let k = known c.args.room.now c.args.stated c.args.tag 0 (λ i. grind arith) _ c.in_ok-rows.ensures in
+    let z = k.sizes_are in
     record {
       n_bound = (z.after, z.rises, z.ends, z.reach);
-      row_le_past = omega (arith, z.up, z.inside, z.few, rows_is c.args.room.now c.args.stated c.args.tag 0 (λ i. grind arith) _ c.in_ok-rows.ensures);
+      row_le_past = omega (arith, z.up, z.inside, z.few, k.rows_is);
     }
 
 pub returns : goal.returns
 returns c =
-    let z = found_numbers c.args.room.now c.args.stated c.args.tag 0 (λ i. grind arith) _ c.in_ok-rows.ensures in
-    let P = passes c.args.room.now c.args.stated c.args.tag 0 (λ i. grind arith) _ c.in_ok-rows.ensures in
-    let S = found_span c.args.room.now c.args.stated c.args.tag 0 (λ i. grind arith) _ c.in_ok-rows.ensures in
-    let l = left_is c.args.room.now c.args.stated c.args.tag 0 (λ i. grind arith) _ c.in_ok-rows.ensures in
-    let r = served c.args.room.now c.args.stated c.args.tag none P _ _ (l ∙ removed-size _ _ S) (omega (arith, l, z.left-most)) (c.take_out.ensures ∙ removed _ _ S) in
+    let k = known c.args.room.now c.args.stated c.args.tag 0 (λ i. grind arith) _ c.in_ok-rows.ensures in
+    let r = served c.args.room.now c.args.stated c.args.tag none k.tests _ _ (k.left_is ∙ removed-size _ _ k.span_is) (omega (arith, k.left_is, k.sizes_are.left-most)) (c.take_out.ensures ∙ removed _ _ k.span_is) in
     record { value = r.0; room_after = r.1 }
