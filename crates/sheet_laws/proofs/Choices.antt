@@ -2,7 +2,7 @@
 use mathlib.Core.Path.{◌≡◌, refl, sym, ap, ◌∙◌}
 use mathlib.Core.Bool.{Bool, true, false, cond, ◌&&◌, and-eq-true_iff}
 use mathlib.Core.List.{List, [], ◌∷◌, ◌++◌, append-nil}
-use mathlib.Core.Option.{some}
+use mathlib.Core.Option.{Option, none, some}
 use Prim.Native.Nat.{ℕ, ◌+◌, ◌≤◌}
 use native.Mathlib.Omega.{arith}
 use lib.Dec.{eqb, leb}
@@ -25,22 +25,22 @@ allowed_tag t l e =
 
 -- ---- a choice of short bodies may be listed
 
-with_one : (t : ℕ) (has : Bool) (body : List ℕ) (es : List Entry) (low : ℕ) → low ≤ t → 0x20 ≤ t → t ≤ 0x23 → short (entry_if t has body ++ es) ≡ true
-    → (short es ≡ true → listable old.kinds (t + 1) es ≡ true) → listable old.kinds low (entry_if t has body ++ es) ≡ true
-with_one t true body es low h a b s next =
+with_one : (t : ℕ) (b : Option (List ℕ)) (es : List Entry) (low : ℕ) → low ≤ t → 0x20 ≤ t → t ≤ 0x23 → short (entry_if t b ++ es) ≡ true
+    → (short es ≡ true → listable old.kinds (t + 1) es ≡ true) → listable old.kinds low (entry_if t b ++ es) ≡ true
+with_one t (some body) es low h least most s next =
     let p = (and-eq-true_iff (leb (length body) 32) (short es)).0 s in
-    cons old.kinds low (record { tag = t; body = body }) es (record { least = h; allowed = allows-is t (length body) ∙ rw (le-leb _ _ a, le-leb _ _ b) p.0; rest = next p.1 })
-with_one t false body es low h a b s next = lower old.kinds low (t + 1) es (omega arith) (next s)
+    cons old.kinds low (record { tag = t; body = body }) es (record { least = h; allowed = allows-is t (length body) ∙ rw (le-leb _ _ least, le-leb _ _ most) p.0; rest = next p.1 })
+with_one t none es low h least most s next = lower old.kinds low (t + 1) es (omega arith) (next s)
 
-module _ (h : Bool) (b : List ℕ) (i : Bool) (c : List ℕ) (j : Bool) (d : List ℕ) (k : Bool) (e : List ℕ) where
-  choice-may : short (choice h b i c j d k e) ≡ true → listable old.kinds 0 (choice h b i c j d k e) ≡ true
+module _ (b c d e : Option (List ℕ)) where
+  choice-may : short (choice b c d e) ≡ true → listable old.kinds 0 (choice b c d e) ≡ true
   unfolding listable
   choice-may =
-      rw (← append-nil (entry_if 0x23 k e))
-      (λ s. with_one 0x20 h b (entry_if 0x21 i c ++ (entry_if 0x22 j d ++ (entry_if 0x23 k e ++ []))) 0 (omega arith) (omega arith) (omega arith) s
-      (λ s. with_one 0x21 i c (entry_if 0x22 j d ++ (entry_if 0x23 k e ++ [])) 0x21 (omega arith) (omega arith) (omega arith) s
-      (λ s. with_one 0x22 j d (entry_if 0x23 k e ++ []) 0x22 (omega arith) (omega arith) (omega arith) s
-      (λ s. with_one 0x23 k e [] 0x23 (omega arith) (omega arith) (omega arith) s (λ _. refl)))))
+      rw (← append-nil (entry_if 0x23 e))
+      (λ s. with_one 0x20 b (entry_if 0x21 c ++ (entry_if 0x22 d ++ (entry_if 0x23 e ++ []))) 0 (omega arith) (omega arith) (omega arith) s
+      (λ s. with_one 0x21 c (entry_if 0x22 d ++ (entry_if 0x23 e ++ [])) 0x21 (omega arith) (omega arith) (omega arith) s
+      (λ s. with_one 0x22 d (entry_if 0x23 e ++ []) 0x22 (omega arith) (omega arith) (omega arith) s
+      (λ s. with_one 0x23 e [] 0x23 (omega arith) (omega arith) (omega arith) s (λ _. refl)))))
 
 -- ---- entries that may be listed are a choice of short bodies
 
@@ -52,24 +52,23 @@ may_short low (e ∷ es) g =
 
 -- what there is under the lowest tag, and the rest
 record Split (t : ℕ) (es : List Entry) : Type 0 where
-  pub has : Bool
-  pub body : List ℕ
+  pub body : Option (List ℕ)
   pub rest : List Entry
-  pub is : es ≡ entry_if t has body ++ rest
+  pub is : es ≡ entry_if t body ++ rest
   pub may : listable old.kinds (t + 1) rest ≡ true
 
 split : (t : ℕ) (es : List Entry) → listable old.kinds t es ≡ true → Split t es
 unfolding listable
-split t [] g = record { has = false; body = []; rest = []; is = refl; may = refl }
+split t [] g = record { body = none; rest = []; is = refl; may = refl }
 split t (e ∷ es) g = by-tag (eqb e.tag t) refl
   where
     by-tag : (x : Bool) → eqb e.tag t ≡ x → Split t (e ∷ es)
     by-tag true q =
         let is : e.tag ≡ t = eqb-true e.tag t q in
-        record { has = true; body = e.body; rest = es; is = ap (λ (n : ℕ). record { tag = n; body = e.body } ∷ es) is; may = rw is at (first old.kinds t e es g).rest }
+        record { body = some e.body; rest = es; is = ap (λ (n : ℕ). record { tag = n; body = e.body } ∷ es) is; may = rw is at (first old.kinds t e es g).rest }
     by-tag false q =
         let f = first old.kinds t e es g in
-        record { has = false; body = []; rest = e ∷ es; is = refl; may = cons old.kinds (t + 1) e es (record { least = omega (arith, f.least, eqb-false e.tag t q); allowed = f.allowed; rest = f.rest }) }
+        record { body = none; rest = e ∷ es; is = refl; may = cons old.kinds (t + 1) e es (record { least = omega (arith, f.least, eqb-false e.tag t q); allowed = f.allowed; rest = f.rest }) }
 
 -- no tag is below 20
 from_20 : (es : List Entry) → listable old.kinds 0 es ≡ true → listable old.kinds 0x20 es ≡ true
@@ -92,17 +91,13 @@ chosen s w =
     let q = split 0x21 p.rest p.may in
     let r = split 0x22 q.rest q.may in
     let u = split 0x23 r.rest r.may in
-    let last : r.rest ≡ entry_if 0x23 u.has u.body = u.is ∙ rw (none_left u.rest u.may) (append-nil (entry_if 0x23 u.has u.body)) in
-    let is : w.entries ≡ choice p.has p.body q.has q.body r.has r.body u.has u.body =
-    p.is ∙ ap (λ (es : List Entry). entry_if 0x20 p.has p.body ++ es) (q.is ∙ ap (λ (es : List Entry). entry_if 0x21 q.has q.body ++ es) (r.is ∙ ap (λ (es : List Entry). entry_if 0x22 r.has r.body ++ es) last)) in
+    let last : r.rest ≡ entry_if 0x23 u.body = u.is ∙ rw (none_left u.rest u.may) (append-nil (entry_if 0x23 u.body)) in
+    let is : w.entries ≡ choice p.body q.body r.body u.body =
+    p.is ∙ ap (λ (es : List Entry). entry_if 0x20 p.body ++ es) (q.is ∙ ap (λ (es : List Entry). entry_if 0x21 q.body ++ es) (r.is ∙ ap (λ (es : List Entry). entry_if 0x22 r.body ++ es) last)) in
     record {
-      has20 = p.has;
       body20 = p.body;
-      has21 = q.has;
       body21 = q.body;
-      has22 = r.has;
       body22 = r.body;
-      has23 = u.has;
       body23 = u.body;
       small = rw is at (may_short 0 w.entries w.may);
       is = w.is ∙ ap (λ (es : List Entry). sheet_of old es) is;
@@ -115,16 +110,32 @@ exactly_written s bytes = (
   λ e. chosen s ((exactly old old_proper s bytes).0 e),
   λ w.
       ap (λ (x : List ℕ). is_sheet x) w.is
-      ∙ is-sheet old old_proper (choice w.has20 w.body20 w.has21 w.body21 w.has22 w.body22 w.has23 w.body23) (choice-may w.has20 w.body20 w.has21 w.body21 w.has22 w.body22 w.has23 w.body23 w.small),
+      ∙ is-sheet old old_proper (choice w.body20 w.body21 w.body22 w.body23) (choice-may w.body20 w.body21 w.body22 w.body23 w.small),
 )
 
-among_one : (tag t : ℕ) (has : Bool) (body : List ℕ) (es : List Entry) → among tag (entry_if t has body ++ es) ≡ cond (has && eqb t tag) (some body) (among tag es)
+-- what there is under a tag that none of the other entries has
+among_one : (tag t : ℕ) (b : Option (List ℕ)) (es : List Entry) → among t es ≡ none → among tag (entry_if t b ++ es) ≡ cond (eqb t tag) b (among tag es)
 unfolding among
-among_one tag t true body es = refl
-among_one tag t false body es = refl
+among_one tag t (some body) es others = refl
+among_one tag t none es others = by-tag (eqb t tag) refl
+  where
+    by-tag : (x : Bool) → eqb t tag ≡ x → among tag es ≡ cond x none (among tag es)
+    by-tag true q = rw (← eqb-true t tag q) others
+    by-tag false q = refl
+
+among_other : (tag t : ℕ) (b : Option (List ℕ)) (es : List Entry) → eqb t tag ≡ false → among tag es ≡ none → among tag (entry_if t b ++ es) ≡ none
+unfolding among
+among_other tag t (some body) es apart others = rw apart others
+among_other tag t none es apart others = others
 
 pub body_back : SheetBodyBack
 unfolding among
-body_back tag h b i c j d k e =
-    ap (λ (es : List Entry). among tag es) (read_back old old_proper (choice h b i c j d k e) (omega (arith, choice-few h b i c j d k e)))
-    ∙ rw (← append-nil (entry_if 0x23 k e), among_one tag 0x20 h b (entry_if 0x21 i c ++ (entry_if 0x22 j d ++ (entry_if 0x23 k e ++ []))), among_one tag 0x21 i c (entry_if 0x22 j d ++ (entry_if 0x23 k e ++ [])), among_one tag 0x22 j d (entry_if 0x23 k e ++ []), among_one tag 0x23 k e [])
+body_back tag b c d e =
+    let from23 : List Entry = entry_if 0x23 e ++ [] in
+    let from22 : List Entry = entry_if 0x22 d ++ from23 in
+    let from21 : List Entry = entry_if 0x21 c ++ from22 in
+    let no22 : among 0x22 from23 ≡ none = among_other 0x22 0x23 e [] refl refl in
+    let no21 : among 0x21 from22 ≡ none = among_other 0x21 0x22 d from23 refl (among_other 0x21 0x23 e [] refl refl) in
+    let no20 : among 0x20 from21 ≡ none = among_other 0x20 0x21 c from22 refl (among_other 0x20 0x22 d from23 refl (among_other 0x20 0x23 e [] refl refl)) in
+    ap (λ (es : List Entry). among tag es) (read_back old old_proper (choice b c d e) (omega (arith, choice-few b c d e)))
+    ∙ rw (← append-nil (entry_if 0x23 e), among_one tag 0x20 b from21 no20, among_one tag 0x21 c from22 no21, among_one tag 0x22 d from23 no22, among_one tag 0x23 e [] refl)

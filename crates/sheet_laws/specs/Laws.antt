@@ -1,6 +1,6 @@
 -- What is promised of sheets and their writer. Definitions: assumes nothing.
-use Rattle.std.specs.Prelude.{◌≡◌, ◌↔◌, Bool, true, List, [], ℕ}
-use Rattle.std.proofs.Math.Option.{get_or}
+use Rattle.std.specs.Prelude.{◌≡◌, ◌↔◌, true, List, [], ℕ}
+use Rattle.std.proofs.Math.Option.{Option, get_or}
 use Rattle.rooms.specs.Rooms.{Bytes}
 use Rattle.sheet.specs.Sheet.{Entry, old, sheet_of, is_sheet, among, body_in}
 use Rattle.sheet.specs.Block.{block_of}
@@ -14,8 +14,8 @@ SheetWritten = (s : List ℕ) → Bytes s → (is_sheet s ≡ true) ↔ Written 
 
 -- reading a tag of a written sheet gives the very body that the writer got for it, or none
 abbrev pub SheetBodyBack : Type 0
-SheetBodyBack = (tag : ℕ) (has20 : Bool) (body20 : List ℕ) (has21 : Bool) (body21 : List ℕ) (has22 : Bool) (body22 : List ℕ) (has23 : Bool) (body23 : List ℕ)
-    → body_in (sheet_of old (choice has20 body20 has21 body21 has22 body22 has23 body23)) tag ≡ given_to tag has20 body20 has21 body21 has22 body22 has23 body23
+SheetBodyBack = (tag : ℕ) (body20 body21 body22 body23 : Option (List ℕ))
+    → body_in (sheet_of old (choice body20 body21 body22 body23)) tag ≡ given_to tag body20 body21 body22 body23
 
 -- a block name is the body that the service sheet lists, else the one that the factory sheet lists, else no bytes
 abbrev pub SheetNamed : Type 0

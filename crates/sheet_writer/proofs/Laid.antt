@@ -50,11 +50,7 @@ module _ (room : List ℕ) (at : Cursor) (es ds : List Entry) (p : Place room at
   smalls : (short es ≡ true) × (short ds ≡ true)
   smalls = (and-eq-true_iff (short es) (short ds)).0 (sym (short_append es ds) ∙ p.small)
 
-  -- place for the first
-  pub place_first : Place room at es
-  place_first = record { rows = omega (arith, p.rows, many); bodies = omega (arith, p.bodies, bytes); offsets = omega (arith, p.offsets, bytes); small = smalls.0 }
-
-  -- and for the others past them
+  -- place for the others past the first
   pub place-past : {m : List ℕ} {next : Cursor} → Put room at es m next → Place m next ds
   place-past one =
       let n : length (laid room at es) ≡ length room = length-sets (sets room at.row (rows_of at.end es)) at.end (bodies_of es) ∙ length-sets room at.row (rows_of at.end es) in
