@@ -6,28 +6,20 @@ ghost use Rattle.std.proofs.lemmas.List.Edits.{sets};
 ghost use Rattle.std.proofs.Math.Seq.{slice};
 ghost use Rattle.moves.specs.Moves.{cut_out, inserted};
 
-// The bytes from..to move up by `by`: from the end down, so that none is overwritten before it is read.
+// The bytes from..to move up by `by`.
 pub fn move_up(room: &mut [u8], from: usize, to: usize, by: usize)
     requires { (from ≤ to) × (to + by ≤ length room.old) }
     ensures { room.new ≡ sets room.old (from + by) (slice from to room.old) }
 {
-    let mut i = to;
-    while from < i {
-        i -= 1;
-        room[i + by] = room[i];
-    }
+    room.copy_within(from..to, from + by);
 }
 
-// The bytes from..to move down by `by`: from the start up.
+// The bytes from..to move down by `by`.
 pub fn move_down(room: &mut [u8], from: usize, to: usize, by: usize)
     requires { (by ≤ from) × (from ≤ to) × (to ≤ length room.old) }
     ensures { room.new ≡ sets room.old (from - by) (slice from to room.old) }
 {
-    let mut i = from;
-    while i < to {
-        room[i - by] = room[i];
-        i += 1;
-    }
+    room.copy_within(from..to, from - by);
 }
 
 // The bytes from..to become 0.
@@ -35,11 +27,7 @@ pub fn fill_zero(room: &mut [u8], from: usize, to: usize)
     requires { (from ≤ to) × (to ≤ length room.old) }
     ensures { room.new ≡ sets room.old from (replicate (to - from) 0) }
 {
-    let mut i = from;
-    while i < to {
-        room[i] = 0;
-        i += 1;
-    }
+    room[from..to].fill(0);
 }
 
 // Of the first `end` bytes, `by` go at `at`: those after them close up, and zeros take the place that is freed.

@@ -1,23 +1,25 @@
--- Each answer, by the tests that led to it; and what a served edit passed. Assumes nothing.
+-- Each result, by the tests that led to it; and what a served edit passed. Assumes nothing.
 use mathlib.Core.Path.{◌≡◌, refl, sym, ap, ◌∙◌}
-use mathlib.Core.Bool.{Bool, true, false, cond, and-eq-true_iff}
+use mathlib.Core.Bool.{Bool, true, false, and-eq-true_iff}
 use mathlib.Core.List.{List}
 use mathlib.Core.Option.{Option, none, some}
 use Prim.Native.Nat.{ℕ, ◌≤◌, ◌<◌}
 use native.Mathlib.Omega.{arith}
-use lib.Dec.{eqb, leb}
+use lib.Dec.{leb}
 use lib.ListN.{length, take}
-use borrow.Author.Tests.{le-leb, lt-leb, leb-true, ne_eqb, eqb-true}
-use Rattle.rooms.proofs.Choice.{chosen}
+use borrow.Author.Tests.{le-leb, lt-leb, leb-true}
+use Rattle.std.specs.Prelude.{Result, Ok, Err}
+use Rattle.std.specs.Result.{IfOk}
+use Rattle.refusals.specs.declared.Refusal.{Refusal}
+use Rattle.refusals.specs.declared.Refusal.TheVariants.{BadSheet, BadTag, LongBody, LongSheet}
 use Rattle.rooms.specs.Rooms.{Bytes}
 use Rattle.sheet.specs.Sheet.{Entry, old, sheet_of, is_sheet}
 use Rattle.sheet.proofs.Lengths.{at_most_145}
 use Rattle.sheet.proofs.Tags.{allows-is}
 use Rattle.sheet_forms.specs.Forms.{listable}
 use Rattle.sheet_forms.proofs.Forms.{old_proper, is-sheet}
-use Rattle.sheet_edit.specs.declared.Edited.{Edited}
-use Rattle.sheet_edit.specs.Edit.{edited, holds_sheet, sheet_after, is_name, size_of, edit_answer, edit_of, room_with, room_after}
-use Rattle.sheet_edit.specs.Tests.{refusal_of}
+use Rattle.sheet_edit.specs.Edit.{edited, holds_sheet, sheet_after, is_name, size_of, require, edit_of, room_with, room_after}
+use Rattle.sheet_edit.specs.Tests.{tested}
 use Rattle.sheet_edit.proofs.After.{Allowed, edited_may}
 use Rattle.sheet_edit.proofs.Rooms.{Front, front, sheet_is}
 
@@ -25,102 +27,119 @@ use Rattle.sheet_edit.proofs.Rooms.{Front, front, sheet_is}
 pub name_most : (tag : ℕ) → is_name tag ≡ true → tag ≤ 0x23
 name_most tag e = leb-true tag 0x23 ((and-eq-true_iff (leb 0x20 tag) (leb tag 0x23)).0 e).1
 
--- 9, 18 or 19 by three tests, or what follows them
-abbrev chain : Bool → Bool → Bool → ℕ → ℕ
-chain x y z next = cond x (cond y (cond z next 19) 18) 9
+-- ---- three tests
 
-all_passed : (x y z : Bool) (next : ℕ) → chain x y z next ≡ 0 → (x ≡ true) × (y ≡ true) × (z ≡ true) × (next ≡ 0)
-all_passed true true true next e = (refl, refl, refl, e)
-all_passed true true false next e = absurd (omega arith)
-all_passed true false z next e = absurd (omega arith)
-all_passed false y z next e = absurd (omega arith)
+all_passed : {A : Type 0} (x y z : Bool) {next : Result A Refusal} {v : A} → require x BadSheet (require y BadTag (require z LongBody next)) ≡ Ok v → (x ≡ true) × (y ≡ true) × (z ≡ true) × (next ≡ Ok v)
+all_passed true true true e = (refl, refl, refl, e)
+all_passed true true false e = absurd (cc)
+all_passed true false z e = absurd (cc)
+all_passed false y z e = absurd (cc)
 
-one_failed : (x y z : Bool) (next : ℕ) → (chain x y z 0 ≡ 0 → ⊥) → chain x y z 0 ≡ chain x y z next
-one_failed true true true next ne = absurd (ne refl)
-one_failed true true false next ne = refl
-one_failed true false z next ne = refl
-one_failed false y z next ne = refl
+one_failed : {A B : Type 0} (x y z : Bool) (v : A) (next : Result B Refusal) {reason : Refusal} → require x BadSheet (require y BadTag (require z LongBody (Ok v))) ≡ Err reason
+    → require x BadSheet (require y BadTag (require z LongBody next)) ≡ Err reason
+one_failed true true true v next e = absurd (cc)
+one_failed true true false v next e = cc
+one_failed true false z v next e = cc
+one_failed false y z v next e = cc
 
-last_passed : (d : Bool) → ◌≡◌ {A = ℕ} (cond d 0 20) 0 → d ≡ true
-last_passed true e = refl
-last_passed false e = absurd (omega arith)
+last_passed : (d : Bool) {n m : ℕ} → require d LongSheet (Ok n) ≡ Ok m → (d ≡ true) × (m ≡ n)
+last_passed true e = (refl, cc)
+last_passed false e = absurd (cc)
 
 module _ (room : List ℕ) (stated tag : ℕ) where
-  pub past_room : (size : ℕ) → length room < stated → 9 ≡ refusal_of room stated tag size
-  unfolding refusal_of holds_sheet
-  past_room size h = rw (lt-leb _ _ h)
+  module _ {A : Type 0} (size : ℕ) (next : Result A Refusal) where
+    pub past_room : length room < stated → Err BadSheet ≡ tested room stated tag size next
+    unfolding tested holds_sheet
+    past_room h = rw (lt-leb _ _ h)
 
-  pub no-sheet : (size : ℕ) → stated ≤ length room → is_sheet (take stated room) ≡ false → 9 ≡ refusal_of room stated tag size
-  unfolding refusal_of holds_sheet
-  no-sheet size h e = rw (le-leb _ _ h, e)
+    pub no-sheet : stated ≤ length room → is_sheet (take stated room) ≡ false → Err BadSheet ≡ tested room stated tag size next
+    unfolding tested holds_sheet
+    no-sheet h e = rw (le-leb _ _ h, e)
 
-  pub no_name : (size : ℕ) → stated ≤ length room → is_sheet (take stated room) ≡ true → is_name tag ≡ false → 18 ≡ refusal_of room stated tag size
-  unfolding refusal_of holds_sheet
-  no_name size h e k = rw (le-leb _ _ h, e, k)
+    pub no_name : stated ≤ length room → is_sheet (take stated room) ≡ true → is_name tag ≡ false → Err BadTag ≡ tested room stated tag size next
+    unfolding tested holds_sheet
+    no_name h e k = rw (le-leb _ _ h, e, k)
 
-  pub long-body : (size : ℕ) → stated ≤ length room → is_sheet (take stated room) ≡ true → is_name tag ≡ true → 32 < size → 19 ≡ refusal_of room stated tag size
-  unfolding refusal_of holds_sheet
-  long-body size h e k l = rw (le-leb _ _ h, e, k, lt-leb _ _ l)
+    pub long-body : stated ≤ length room → is_sheet (take stated room) ≡ true → is_name tag ≡ true → 32 < size → Err LongBody ≡ tested room stated tag size next
+    unfolding tested holds_sheet
+    long-body h e k l = rw (le-leb _ _ h, e, k, lt-leb _ _ l)
 
-  pub no-refusal : (size : ℕ) → stated ≤ length room → is_sheet (take stated room) ≡ true → is_name tag ≡ true → size ≤ 32 → 0 ≡ refusal_of room stated tag size
-  unfolding refusal_of holds_sheet
-  no-refusal size h e k l = rw (le-leb _ _ h, e, k, le-leb _ _ l)
+    pub no-refusal : stated ≤ length room → is_sheet (take stated room) ≡ true → is_name tag ≡ true → size ≤ 32 → next ≡ tested room stated tag size next
+    unfolding tested holds_sheet
+    no-refusal h e k l = rw (le-leb _ _ h, e, k, le-leb _ _ l)
+
+  -- each test is passed
+  pub record Passed (size : ℕ) : Type 0 where
+    pub holds : holds_sheet room stated ≡ true
+    pub name : is_name tag ≡ true
+    pub short : size ≤ 32
+
+  pub passed : {A : Type 0} (size : ℕ) (v : A) {w : A} → tested room stated tag size (Ok v) ≡ Ok w → Passed size × (w ≡ v)
+  unfolding tested
+  passed size v e =
+      let t = all_passed (holds_sheet room stated) (is_name tag) (leb size 32) e in
+      (record { holds = t.0; name = t.1; short = leb-true _ _ t.2 }, cc)
+
+  pub not_passed : {A B : Type 0} (size : ℕ) (v : A) (next : Result B Refusal) {reason : Refusal} → tested room stated tag size (Ok v) ≡ Err reason
+      → tested room stated tag size next ≡ Err reason
+  unfolding tested
+  not_passed size v next e = one_failed (holds_sheet room stated) (is_name tag) (leb size 32) v next e
+
+  pub go_on : {A : Type 0} {size : ℕ} {next : Result A Refusal} → Passed size → tested room stated tag size next ≡ next
+  unfolding tested
+  go_on P = rw (P.holds, P.name, le-leb _ _ P.short)
 
   module _ (to : Option (List ℕ)) where
+    abbrev size : ℕ
+    size = size_of to
+
+    -- the last test, and the new sheet's length
+    abbrev last : Result ℕ Refusal
+    last = require (leb (length (sheet_after room stated tag to)) (length room)) LongSheet (Ok (length (sheet_after room stated tag to)))
+
+    edit_is : edit_of room stated tag to ≡ tested room stated tag size last
+    unfolding edit_of tested
+    edit_is = refl
+
     -- what comes out: the result and the room
-    abbrev Owed : Edited → List ℕ → Type 0
+    abbrev Owed : Result ℕ Refusal → List ℕ → Type 0
     Owed r s = (r ≡ edit_of room stated tag to) × (s ≡ room_after room stated tag to)
 
-    by_answer : (a : ℕ) → a ≡ edit_answer room stated tag to → (a ≡ 0 → ⊥) → Owed (record { answer = a; length = 0 }) room
-    unfolding edit_of room_after
-    by_answer a e ne = let z = ne_eqb a 0 ne in (rw (← e, z), rw (← e, z))
+    by_refusal : {reason : Refusal} → edit_of room stated tag to ≡ Err reason → Owed (Err reason) room
+    unfolding room_after
+    by_refusal e = (sym e, rw e)
 
-    -- no refusal: each test is passed
-    pub record Passed : Type 0 where
-      pub holds : holds_sheet room stated ≡ true
-      pub name : is_name tag ≡ true
-      pub short : size_of to ≤ 32
+    pub refused : {A : Type 0} (v : A) {reason : Refusal} → tested room stated tag size (Ok v) ≡ Err reason → Owed (Err reason) room
+    refused v e = by_refusal (edit_is ∙ not_passed size v last e)
 
-    pub passed : (a : ℕ) → a ≡ refusal_of room stated tag (size_of to) → a ≡ 0 → Passed
-    unfolding refusal_of
-    passed a e z =
-        let t = all_passed (holds_sheet room stated) (is_name tag) (leb (size_of to) 32) 0 (sym e ∙ z) in
-        record { holds = t.0; name = t.1; short = leb-true _ _ t.2 }
+    pub too_long : Passed size → (l : ℕ) → l ≡ length (sheet_after room stated tag to) → length room < l → Owed (Err LongSheet) room
+    too_long P l e h = by_refusal (edit_is ∙ go_on P ∙ rw (← e, lt-leb _ _ h))
 
-    pub refused : (a : ℕ) → a ≡ refusal_of room stated tag (size_of to) → (a ≡ 0 → ⊥) → Owed (record { answer = a; length = 0 }) room
-    unfolding refusal_of edit_answer
-    refused a e ne = by_answer a (e ∙ one_failed (holds_sheet room stated) (is_name tag) (leb (size_of to) 32) _ (λ z. ne (e ∙ z))) ne
+    pub is-done : Passed size → length (sheet_after room stated tag to) ≤ length room → edit_of room stated tag to ≡ Ok (length (sheet_after room stated tag to))
+    is-done P h = edit_is ∙ go_on P ∙ rw (le-leb _ _ h)
 
-    pub too_long : Passed → (l : ℕ) → l ≡ length (sheet_after room stated tag to) → length room < l → Owed (record { answer = 20; length = 0 }) room
-    unfolding edit_answer
-    too_long P l e h = by_answer 20 (rw (P.holds, P.name, le-leb _ _ P.short, ← e, lt-leb _ _ h)) (λ z. omega arith)
-
-    pub served : Passed → (a l : ℕ) (s : List ℕ) → a ≡ 0 → l ≡ length (sheet_after room stated tag to) → l ≤ length room
-        → s ≡ room_with (sheet_after room stated tag to) stated room → Owed (record { answer = a; length = l }) s
-    unfolding edit_of room_after edit_answer
-    served P a l s z e h q =
-        let m : leb (length (sheet_after room stated tag to)) (length room) ≡ true = rw (← e) (le-leb _ _ h) in
-        let k = le-leb _ _ P.short in
-        (rw (P.holds, P.name, k, m, z, e), rw (P.holds, P.name, k, m) q)
+    pub served : Passed size → (l : ℕ) (s : List ℕ) → l ≡ length (sheet_after room stated tag to) → l ≤ length room
+        → s ≡ room_with (sheet_after room stated tag to) stated room → Owed (Ok l) s
+    unfolding room_after
+    served P l s e h q =
+        let d = is-done P (omega arith) in
+        (rw e (sym d), rw d q)
 
     -- ---- a served edit
 
-    pub record Done : Type 0 where
-      pub tests : Passed
+    pub record Done (new : ℕ) : Type 0 where
+      pub tests : Passed size
       pub fits : length (sheet_after room stated tag to) ≤ length room
       pub room_is : room_after room stated tag to ≡ room_with (sheet_after room stated tag to) stated room
-      pub length-is : (edit_of room stated tag to).length ≡ length (sheet_after room stated tag to)
+      pub length-is : new ≡ length (sheet_after room stated tag to)
 
-    pub done : edit_answer room stated tag to ≡ 0 → Done
-    unfolding edit_answer edit_of room_after
+    pub done : {new : ℕ} → edit_of room stated tag to ≡ Ok new → Done new
+    unfolding edit_of room_after
     done e =
         let n : ℕ = length (sheet_after room stated tag to) in
-        let p = all_passed (holds_sheet room stated) (is_name tag) (leb (size_of to) 32) (cond (leb n (length room)) 0 20) e in
-        record { tests = record { holds = p.0; name = p.1; short = leb-true _ _ p.2 }; fits = leb-true _ _ (last_passed (leb n (length room)) p.3); room_is = rw e; length-is = rw e }
-
-    pub is-done : Passed → length (sheet_after room stated tag to) ≤ length room → edit_answer room stated tag to ≡ 0
-    unfolding edit_answer
-    is-done P h = rw (P.holds, P.name, le-leb _ _ P.short, le-leb _ _ h)
+        let p = all_passed (holds_sheet room stated) (is_name tag) (leb size 32) e in
+        let t = last_passed (leb n (length room)) p.3 in
+        record { tests = record { holds = p.0; name = p.1; short = leb-true _ _ p.2 }; fits = leb-true _ _ t.0; room_is = rw e; length-is = t.1 }
 
 -- ---- the new sheet
 
@@ -136,14 +155,13 @@ module _ {room : List ℕ} {stated : ℕ} (F : Front room stated) (tag : ℕ) (t
   pub now-may : Allowed old.kinds tag to → listable old.kinds 0 now ≡ true
   now-may a = edited_may old.kinds 0 tag to F.entries F.may (omega arith) a
 
-  pub now-most : Passed room stated tag to → length (sheet_after room stated tag to) ≤ 145
+  pub now-most : Passed room stated tag (size_of to) → length (sheet_after room stated tag to) ≤ 145
   now-most P = omega (arith, ap length (sheet_is F tag to), at_most_145 (sheet_of old now) (is-sheet old old_proper now (now-may (may_stand tag to P.name P.short))))
 
--- no edit answers a length over 145
-pub edit_most : (room : List ℕ) (stated tag : ℕ) (to : Option (List ℕ)) → Bytes room → {e : Edited} → e ≡ edit_of room stated tag to → e.length ≤ 145
-unfolding edit_of
-edit_most room stated tag to bytes is =
-    rw is
-    (chosen (λ (n : ℕ). n ≤ 145) (eqb (edit_answer room stated tag to) 0)
-    (λ e. let P = (done room stated tag to (eqb-true (edit_answer room stated tag to) 0 e)).tests in now-most (front room stated P.holds bytes) tag to P)
-    (λ e. omega arith))
+-- no new sheet is longer than 145
+pub edit_most : (room : List ℕ) (stated tag : ℕ) (to : Option (List ℕ)) → Bytes room → (r : Result ℕ Refusal) → r ≡ edit_of room stated tag to → IfOk r (λ n. n ≤ 145)
+edit_most room stated tag to bytes (Err reason) e = tt
+edit_most room stated tag to bytes (Ok n) e =
+    let D = done room stated tag to (sym e) in
+    let m = now-most (front room stated D.tests.holds bytes) tag to D.tests in
+    omega (arith, D.length-is)

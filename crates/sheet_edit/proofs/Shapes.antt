@@ -75,7 +75,7 @@ module _ (f : Form) (B : List Entry) where
       let k : length p ≡ 1 + 4 * length B = omega (arith, rows_length B o) in
       let w : sheet_of f es ≡ p ++ (rows_of u (e ∷ C) ++ bodies_of es) = rw (rows_append B (e ∷ C) o) (append_assoc p (rows_of u (e ∷ C)) (bodies_of es)) in
       let at : offset_at (sheet_of f es) (1 + 4 * length B) ≡ u = rw (← k) (row (sheet_of f es) p (bodies_of es) u e C w).starts in
-      sym (in_row (sheet_of f es) (length es) (length B) (4 * length B) u (omega arith) refl (sym at))
+      sym (in_row (sheet_of f es) (length es) (length B) u (omega arith) (sym at))
 
 -- ---- regrouping
 

@@ -1,8 +1,10 @@
--- Request R-9: what an edit of the sheet in a lent room gives, answer, length and room. Nothing here speaks of moving. Definitions: assumes nothing.
-use Rattle.std.specs.Prelude.{Bool, cond, ◌&&◌, List, [], ◌∷◌, ◌++◌, ℕ, ◌-◌, max, eqb, ltb, leb, length, take, drop, replicate}
+-- Request R-9: what an edit of the sheet in a lent room gives, result and room. Nothing here speaks of moving. Definitions: assumes nothing.
+use Rattle.std.specs.Prelude.{Bool, cond, ◌&&◌, Result, Ok, Err, List, [], ◌∷◌, ◌++◌, ℕ, ◌-◌, max, ltb, leb, length, take, drop, replicate}
+use Rattle.std.specs.Result.{is_ok}
 use Rattle.std.proofs.Math.Option.{Option, none, some}
+use Rattle.refusals.specs.declared.Refusal.{Refusal}
+use Rattle.refusals.specs.declared.Refusal.TheVariants.{BadSheet, BadTag, LongBody, LongSheet}
 use Rattle.sheet.specs.Sheet.{Entry, old, sheet_of, is_sheet, entries_in}
-use Rattle.sheet_edit.specs.declared.Edited.{Edited}
 
 -- ---- the entries
 
@@ -35,7 +37,7 @@ holds_sheet room stated = leb stated (length room) && is_sheet (take stated room
 abbrev pub sheet_after : List ℕ → ℕ → ℕ → Option (List ℕ) → List ℕ
 sheet_after room stated tag to = sheet_of old (edited tag to (entries_in (take stated room)))
 
--- ---- the answer
+-- ---- the tests
 
 -- the tags of block names
 abbrev pub is_name : ℕ → Bool
@@ -46,21 +48,20 @@ abbrev pub size_of : Option (List ℕ) → ℕ
 size_of none = 0
 size_of (some body) = length body
 
--- 9: no sheet of the stated length at the front; 18: the tag isn't 20 to 23; 19: the body is over 32 bytes; 20: the sheet would be longer than the room (RULES 1.9, 1.18 to 1.20)
-unfoldable pub edit_answer : List ℕ → ℕ → ℕ → Option (List ℕ) → ℕ
-edit_answer room stated tag to =
-    cond (holds_sheet room stated)
-    (cond (is_name tag) (cond (leb (size_of to) 32) (cond (leb (length (sheet_after room stated tag to)) (length room)) 0 20) 19) 18)
-    9
+-- a refusal unless a test is passed
+abbrev pub require : {A : Type 0} → Bool → Refusal → Result A Refusal → Result A Refusal
+require passed reason next = cond passed next (Err reason)
 
 -- ---- what comes out
 
--- the answer 0 and the new sheet's length; or a refusal, and 0 (RULES 9.7, 2.4)
-unfoldable pub edit_of : List ℕ → ℕ → ℕ → Option (List ℕ) → Edited
-edit_of room stated tag to = record {
-  answer = edit_answer room stated tag to;
-  length = cond (eqb (edit_answer room stated tag to) 0) (length (sheet_after room stated tag to)) 0;
-}
+-- refused: no sheet of the stated length at the front; the tag isn't 20 to 23; the body is over 32 bytes; the sheet would be longer than the room; else the new sheet's length (RULES 1.9, 1.18 to 1.20, 9.7, 2.4)
+unfoldable pub edit_of : List ℕ → ℕ → ℕ → Option (List ℕ) → Result ℕ Refusal
+edit_of room stated tag to =
+    require (holds_sheet room stated) BadSheet
+    (require (is_name tag) BadTag
+    (require (leb (size_of to) 32) LongBody
+    (require (leb (length (sheet_after room stated tag to)) (length room)) LongSheet
+    (Ok (length (sheet_after room stated tag to))))))
 
 -- a room with a sheet at its front: zeros from there to where the old one ended; then what stood there (RULES 9.8)
 unfoldable pub room_with : List ℕ → ℕ → List ℕ → List ℕ
@@ -69,4 +70,4 @@ room_with sheet stated room = sheet ++ (replicate (stated - length sheet) 0 ++ d
 -- the room with the new sheet; or the room as it was (RULES 9.8, 2.3)
 unfoldable pub room_after : List ℕ → ℕ → ℕ → Option (List ℕ) → List ℕ
 room_after room stated tag to =
-    cond (eqb (edit_answer room stated tag to) 0) (room_with (sheet_after room stated tag to) stated room) room
+    cond (is_ok (edit_of room stated tag to)) (room_with (sheet_after room stated tag to) stated room) room

@@ -1,24 +1,33 @@
 -- The loops over the rows: what a turn says of the definitions. Assumes nothing.
 use mathlib.Core.Path.{◌≡◌, ap, ◌∙◌}
-use mathlib.Core.Bool.{cond}
-use mathlib.Core.List.{List}
+use mathlib.Core.Bool.{Bool, true, false, cond}
+use mathlib.Core.List.{List, [], ◌∷◌}
 use Prim.Native.Nat.{ℕ, suc, ◌+◌, ◌*◌, ◌-◌, ◌/◌, ◌%◌, ◌≤◌, ◌<◌}
 use native.Mathlib.Omega.{arith}
 use lib.Dec.{ltb}
 use lib.ListN.{length, get_or, set}
+use lib.Seq.{sets}
+use mir.Syntax.{w16}
 use borrow.Author.Tests.{lt-ltb, le-ltb}
+use Rattle.std.specs.Int.{from_bool, byte_at, to_le_bytes}
 use Rattle.sheet.specs.Sheet.{tag_at, offset_at}
-use Rattle.sheet_steps.specs.Steps.{count_below, place_in, laid_rows, laid}
+use Rattle.sheet_steps.specs.Steps.{count_below, place_in, laid_rows}
 
 -- ---- counting
 
-module _ (s : List ℕ) (n i at tag k total : ℕ) (inv : k + count_below (n - i) s at tag ≡ total) where
-  pub count_turn : (x : ℕ) → i < n → x ≡ cond (ltb (tag_at s at) tag) 1 0 → k + x + count_below (n - (i + 1)) s (at + 4) tag ≡ total
+-- a test as a number
+pub one_or_none : (b : Bool) {x : ℕ} → x ≡ from_bool b → (x ≤ 1) × (x ≡ cond b 1 0)
+one_or_none true e = (omega arith, e)
+one_or_none false e = (omega arith, e)
+
+module _ (s : List ℕ) (n i tag k total : ℕ) (inv : k + count_below (n - i) s (1 + 4 * i) tag ≡ total) where
+  pub count_turn : (x : ℕ) → i < n → x ≡ cond (ltb (tag_at s (1 + 4 * i)) tag) 1 0 → k + x + count_below (n - (i + 1)) s (1 + 4 * (i + 1)) tag ≡ total
   unfolding count_below
   count_turn x h e =
       let z : n - i ≡ suc (n - (i + 1)) = omega arith in
-      let inv' : k + count_below (suc (n - (i + 1))) s at tag ≡ total = rw z at inv in
-      omega arith
+      let y : 1 + 4 * (i + 1) ≡ 1 + 4 * i + 4 = omega arith in
+      let inv' : k + count_below (suc (n - (i + 1))) s (1 + 4 * i) tag ≡ total = rw z at inv in
+      rw y (omega arith)
 
   pub count-end : n ≤ i → k ≡ total
   unfolding count_below
@@ -27,35 +36,37 @@ module _ (s : List ℕ) (n i at tag k total : ℕ) (inv : k + count_below (n - i
       let inv' : k + 0 ≡ total = rw z at inv in
       omega arith
 
-pub count_start : (s : List ℕ) (n tag : ℕ) → 0 + count_below (n - 0) s 1 tag ≡ count_below n s 1 tag
-count_start s n tag =
-    let z : n - 0 ≡ n = omega arith in
-    rw z (omega arith)
-
 -- ---- offsets
 
-module _ (n : ℕ) (s : List ℕ) (i at end : ℕ) (total : List ℕ) (inv : laid_rows (n - i) s at end ≡ total) where
-  pub lay-turn : (size : ℕ) → i < n → size ≡ get_or s (at + 1) 0
-      → laid_rows (n - (i + 1)) (set (set s (at + 2) (end % 256)) (at + 3) (end / 256)) (at + 4) (end + size) ≡ total
+-- a place in two bytes, low first
+two_bytes : (n : ℕ) → n < 65536 → to_le_bytes w16 n ≡ n % 256 ∷ n / 256 ∷ []
+two_bytes n h =
+    let a : byte_at 0 n ≡ n % 256 = omega arith in
+    let b : byte_at 1 n ≡ n / 256 = omega arith in
+    cc
+
+module _ (n : ℕ) (s : List ℕ) (i end : ℕ) (total : List ℕ) (inv : laid_rows (n - i) s (1 + 4 * i) end ≡ total) where
+  pub lay-turn : (size : ℕ) {bytes new : List ℕ} → i < n → end < 65536 → size ≡ get_or s (1 + 4 * i + 1) 0 → bytes ≡ to_le_bytes w16 end → new ≡ sets s (1 + 4 * i + 2) bytes
+      → laid_rows (n - (i + 1)) new (1 + 4 * (i + 1)) (end + size) ≡ total
   unfolding laid_rows
-  lay-turn size h e =
+  lay-turn size {bytes} {new} h k e b m =
       let z : suc (n - (i + 1)) ≡ n - i = omega arith in
-      rw e (ap (λ (k : ℕ). laid_rows k s at end) z ∙ inv)
+      let y : 1 + 4 * (i + 1) ≡ 1 + 4 * i + 4 = omega arith in
+      let x : 1 + 4 * i + 3 ≡ suc (1 + 4 * i + 2) = omega arith in
+      let stored : new ≡ set (set s (1 + 4 * i + 2) (end % 256)) (1 + 4 * i + 3) (end / 256) = m ∙ ap (λ (v : List ℕ). sets s (1 + 4 * i + 2) v) (b ∙ two_bytes end k) ∙ rw x in
+      rw (y, e, stored) (ap (λ (k : ℕ). laid_rows k s (1 + 4 * i) end) z ∙ inv)
 
   pub lay-end : n ≤ i → s ≡ total
   unfolding laid_rows
   lay-end h =
       let z : 0 ≡ n - i = omega arith in
-      ap (λ (k : ℕ). laid_rows k s at end) z ∙ inv
-
-pub lay_start : (n rows : ℕ) (s : List ℕ) → rows ≡ 4 * n → laid_rows (n - 0) s 1 (1 + rows) ≡ laid n s
-lay_start n rows s e = let z : n - 0 ≡ n = omega arith in rw (z, e)
+      ap (λ (k : ℕ). laid_rows k s (1 + 4 * i) end) z ∙ inv
 
 -- ---- where a body starts
 
-pub in_row : (s : List ℕ) (n k rows o : ℕ) → k < n → rows ≡ 4 * k → o ≡ offset_at s (1 + rows) → o ≡ place_in s n k
+pub in_row : (s : List ℕ) (n k o : ℕ) → k < n → o ≡ offset_at s (1 + 4 * k) → o ≡ place_in s n k
 unfolding place_in
-in_row s n k rows o h r e = rw (lt-ltb _ _ h, ← r) e
+in_row s n k o h e = rw (lt-ltb _ _ h) e
 
 pub past_rows : (s : List ℕ) (n k : ℕ) → n ≤ k → length s ≡ place_in s n k
 unfolding place_in

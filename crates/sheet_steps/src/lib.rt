@@ -18,16 +18,7 @@ pub fn rows_size(rows: usize) -> usize
     requires { rows ≤ 6 }
     ensures { result ≡ 4 * rows }
 {
-    rows << 2
-}
-
-fn one_if_less(a: u8, b: u8) -> usize
-    ensures { (result ≡ cond (ltb a b) 1 0) × (result ≤ 1) }
-{
-    if a < b {
-        return 1;
-    }
-    0
+    4 * rows
 }
 
 // How many of n rows have tags below `tag`.
@@ -35,15 +26,11 @@ fn count(sheet: &[u8], n: usize, tag: u8) -> usize
     requires { 1 + 4 * n ≤ length sheet.now }
     ensures { result ≡ count_below n sheet.now 1 tag }
 {
-    let mut i = 0;
-    let mut at: usize = 1;
-    let mut k: usize = 0;
-    while i < n {
-        k += one_if_less(sheet[at], tag);
-        at += 4;
-        i += 1;
+    let mut below = 0;
+    for i in 0..n {
+        below += usize::from(sheet[1 + 4 * i] < tag);
     }
-    k
+    below
 }
 
 // Where the body of row k starts; past the last, where the sheet ends.
@@ -52,10 +39,11 @@ fn place(sheet: &[u8], n: usize, k: usize) -> usize
     ensures { result ≡ place_in sheet.now n k }
 {
     if k < n {
-        let at = 1 + rows_size(k);
-        return rooms::offset(sheet[at + 2], sheet[at + 3]);
+        let at = 1 + 4 * k;
+        rooms::offset(sheet[at + 2], sheet[at + 3])
+    } else {
+        sheet.len()
     }
-    sheet.len()
 }
 
 // The span of a tag in a sheet of n rows.
@@ -80,16 +68,12 @@ fn lay(room: &mut [u8], n: usize)
     requires { (1 + 4 * n ≤ length room.old) × (n ≤ 6) }
     ensures { room.new ≡ laid n room.old }
 {
-    let mut i = 0;
-    let mut at: usize = 1;
     let mut end = 1 + rows_size(n);
-    while i < n {
-        let size = rooms::wide(room[at + 1]);
-        room[at + 2] = (end % 256) as u8;
-        room[at + 3] = (end / 256) as u8;
+    for i in 0..n {
+        let at = 1 + 4 * i;
+        let size = usize::from(room[at + 1]);
+        rooms::put_bytes(room, at + 2, &(end as u16).to_le_bytes());
         end += size;
-        at += 4;
-        i += 1;
     }
 }
 

@@ -1,26 +1,17 @@
-use mathlib.Core.Path.{◌≡◌, refl, ap, ◌∙◌}
-use Prim.Native.Nat.{◌≤◌, ◌-◌}
+use mathlib.Core.Path.{◌≡◌, sym, ap, ◌∙◌}
+use mathlib.Core.List.{List}
+use Prim.Native.Nat.{ℕ, ◌-◌}
 use native.Mathlib.Omega.{arith}
-use lib.ListN.{length, length-set, replicate}
-use lib.Seq.{sets}
-use Rattle.moves.proofs.Stores.{zero_turn, none_cleared}
+use lib.ListN.{length, take, drop, replicate, length-drop, length-replicate}
+use lib.Seq.{length-take-le}
+use Rattle.rooms.proofs.Rooms.{part_stored}
 use Rattle.moves.proofs.fill_zero.Goals as goal
-
-pub loop-i-init : goal.loop-i-init
-loop-i-init c = (omega arith, omega arith, none_cleared c.args.room.now c.args.from, refl)
-
-pub loop-i-preserved : goal.loop-i-preserved
-loop-i-preserved c =
-    let entry = c.args in
-    let at-loop = c.loop-i in
-    (omega arith, omega arith, zero_turn entry.room.now entry.from at-loop.i (omega arith) at-loop.invariant.2, simp length-set at-loop.invariant.3)
-
-pub shape_of-room : goal.shape_of-room
-shape_of-room c = c.loop-i.invariant.3
 
 pub returns : goal.returns
 returns c =
-    let entry = c.args in
-    let at-loop = c.loop-i in
-    let z : at-loop.i ≡ entry.to = omega arith in
-    at-loop.invariant.2 ∙ ap (λ k. sets entry.room.now entry.from (replicate (k - entry.from) 0)) z
+    let room = c.args.room.now in
+    let n = c.args.to - c.args.from in
+    let zeros : List ℕ = replicate n 0 in
+    let size = length-replicate {A = ℕ} n 0 in
+    let part : length (take n (drop c.args.from room)) ≡ n = length-take-le n (drop c.args.from room) (omega (arith, length-drop c.args.from room)) in
+    part_stored room zeros _ c.args.from n (sym size) (c.fill.ensures.after (λ y e. e) ∙ ap (λ (k : ℕ). replicate k 0) part) (omega arith)

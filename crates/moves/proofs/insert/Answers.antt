@@ -1,5 +1,4 @@
 use mathlib.Core.Path.{◌∙◌}
-use borrow.Author.Rules.{rules}
 use lib.Seq.{slice}
 use Rattle.moves.proofs.Stores.{sets_before}
 use Rattle.moves.proofs.insert.Goals as goal

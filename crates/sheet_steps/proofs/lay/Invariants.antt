@@ -5,7 +5,4 @@ use Rattle.sheet_steps.specs.Steps.{laid_rows, laid}
 use Rattle.sheet_steps.proofs.lay.Given as goal
 
 abbrev pub invariant-loop-i : goal.invariant-loop-i
-invariant-loop-i l = (l.i ≤ l.n) × (l.at ≡ 1 + 4 * l.i) × (l.end ≤ 1 + 4 * l.n + 255 * l.i) × (laid_rows (l.n - l.i) l.room l.at l.end ≡ laid l.n l.initial.room) × (length l.room ≡ length l.initial.room)
-
-abbrev pub decreases-loop-i : goal.decreases-loop-i
-decreases-loop-i l = l.n - l.i
+invariant-loop-i l = (l.end ≤ 1 + 4 * l.n + 255 * l.i) × (laid_rows (l.n - l.i) l.room (1 + 4 * l.i) l.end ≡ laid l.n l.initial.room) × (length l.room ≡ length l.initial.room)

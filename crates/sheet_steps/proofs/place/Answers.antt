@@ -2,7 +2,7 @@ use Rattle.sheet_steps.proofs.Walk.{in_row, past_rows}
 use Rattle.sheet_steps.proofs.place.Goals as goal
 
 pub returns-then-k-n : goal.returns-then-k-n
-returns-then-k-n c = in_row _ _ _ _ _ c.if-k-n.true c.rows_size-at.ensures c.offset.ensures.0
+returns-then-k-n c = in_row _ _ _ _ c.if-k-n.true c.offset.ensures.0
 
-pub returns : goal.returns
-returns c = past_rows _ _ _ c.if-k-n.false
+pub returns-else-k-n : goal.returns-else-k-n
+returns-else-k-n c = past_rows _ _ _ c.if-k-n.false
