@@ -1,4 +1,3 @@
-use Prim.Native.Nat.{◌-◌, ◌≤◌}
 use lib.ListN.{length, take}
 use lib.Seq.{sets}
 use Rattle.names.specs.Names.{escape}
@@ -7,7 +6,4 @@ use mathlib.Core.Path.{◌≡◌}
 use Rattle.names.proofs.put_plain.Given as goal
 
 abbrev pub invariant-loop-o : goal.invariant-loop-o
-invariant-loop-o l = (l.o ≤ l.n) × (l.i ≡ length (escape (take l.o (plain_of l.part)))) × (l.room ≡ sets l.initial.room 0 (take l.o (plain_of l.part))) × (length l.room ≡ length l.initial.room)
-
-abbrev pub decreases-loop-o : goal.decreases-loop-o
-decreases-loop-o l = l.n - l.o
+invariant-loop-o l = record { marks : l.i ≡ length (escape (take l.o (plain_of l.part))); laid : l.room ≡ sets l.initial.room 0 (take l.o (plain_of l.part)) }
