@@ -32,21 +32,14 @@ fn plain(key: &[u8], at: usize, n: usize) -> Ending
     requires { n ≤ 32 }
     ensures { result ≡ ending_of (read_plain (drop at key.now)) at n }
 {
-    if key.len() <= at {
-        return Ending::Ended(n);
+    match key.get(at) {
+        None => Ending::Ended(n),
+        Some(b'/') => Ending::Stopped(at),
+        // a 33rd byte, which no name of a key has: reading calls itself no deeper
+        Some(_) if n == 32 => Ending::Bad,
+        Some(b'\\') => escaped(key, at + 1, n),
+        Some(_) => plain(key, at + 1, n + 1),
     }
-    let b = key[at];
-    if b == b'/' {
-        return Ending::Stopped(at);
-    }
-    // a 33rd byte, which no name of a key has: reading calls itself no deeper
-    if n == 32 {
-        return Ending::Bad;
-    }
-    if b == b'\\' {
-        return escaped(key, at + 1, n);
-    }
-    plain(key, at + 1, n + 1)
 }
 
 // The escape rule: the one byte that the mark before it hands on, then plain reading.
@@ -56,10 +49,10 @@ fn escaped(key: &[u8], at: usize, n: usize) -> Ending
     requires n_bound { n < 32 }
     ensures { result ≡ ending_of (read_escaped (drop at key.now)) (at - 1) n }
 {
-    if at < key.len() && is_marked(key[at]) {
-        return plain(key, at + 1, n + 1);
+    match key.get(at) {
+        Some(b'/' | b'\\') => plain(key, at + 1, n + 1),
+        _ => Ending::Bad,
     }
-    Ending::Bad
 }
 
 // Where a name of up to 32 bytes, read from a place on, ends at a 2F.
