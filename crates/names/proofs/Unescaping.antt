@@ -4,18 +4,20 @@ use mathlib.Core.Bool.{Bool, true, false, cond}
 use mathlib.Mathlib.Data.Bool.Basic.{or-eq-false-eq-eq-false-and-eq-false}
 use mathlib.Core.List.{List, ◌∷◌, ◌++◌}
 use mathlib.Core.Option.{none, some}
-use Prim.Native.Nat.{ℕ, suc, ◌+◌, ◌-◌, ◌≤◌, ◌<◌}
+use Prim.Native.Nat.{ℕ, suc, ◌+◌, ◌≤◌, ◌<◌}
 use native.Mathlib.Nat.{add-zero, zero-add}
 use native.Mathlib.Omega.{arith}
 use lib.Dec.{eqb, leb}
 use lib.ListN.{length, take, drop, get_or, set, length-append, take-append-drop}
-use lib.Seq.{sets, drop-cons, get_or-append-add}
+use lib.Seq.{sets, take-suc, drop-cons, get_or-append-add}
 use borrow.Author.Tests.{le-ltb, lt-ltb}
 use Rattle.std.specs.Prelude.{Ok, Err}
 use Rattle.refusals.specs.declared.Refusal.TheVariants.{NoFit}
 use Rattle.names.specs.declared.Ending.{Ending}
 use Rattle.names.specs.declared.Ending.TheVariants.{Stopped, Ended, Bad}
-use Rattle.rooms.proofs.Rooms.{one_more, front}
+use Rattle.std.proofs.lemmas.List.{take_more_set}
+use native.Mathlib.Numerals.{add-one}
+use Rattle.rooms.proofs.Rooms.{front}
 use Rattle.names.specs.Names.{marked, escape_byte, escape, Name, bad, ended, stopped, read_plain, whole, unescaped, of_key, name_in, plain_wrote, plain_room}
 use Rattle.names.specs.Steps.{ending_of, plain_of, past_mark}
 use Rattle.names.proofs.Escaping.{escape_append, escape_snoc}
@@ -70,8 +72,8 @@ turn part name o i ep h ei =
     let n : length (escape (take (o + 1) name)) ≡ length P + length (escape_byte b) = ap length (escape_snoc name o h) ∙ length-append P (escape_byte b) in
     rw s (record { mark_within = omega (arith, w.0, mark_after i (eqb (get_or (P ++ (escape_byte b ++ t)) i 0) 0x5C)); within = w.0; byte = w.1; next = w.2 ∙ sym n })
 
-pub plain_laid : (name l₀ : List ℕ) (o : ℕ) {l : List ℕ} {b : ℕ} → o < length name → l ≡ sets l₀ 0 (take o name) → b ≡ get_or name o 0 → set l o b ≡ sets l₀ 0 (take (o + 1) name)
-plain_laid name l₀ o {l} h e eb = ap (set l o) eb ∙ ap (λ (i : ℕ). set l i (get_or name o 0)) (sym (zero-add o)) ∙ one_more l₀ 0 o name h e
+pub plain_laid : (name front : List ℕ) (o : ℕ) {b : ℕ} → o < length name → o < length front → take o front ≡ take o name → b ≡ get_or name o 0 → take (o + 1) (set front o b) ≡ take (o + 1) name
+plain_laid name front o hn hf e eb = take_more_set front o _ hf ∙ rw (e, eb, add-one, take-suc name o 0 hn)
 
 -- ---- what is answered
 

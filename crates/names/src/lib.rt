@@ -81,9 +81,9 @@ fn put_plain(part: &[u8], n: usize, room: &mut [u8])
     ensures { room.new ≡ sets room.old 0 (plain_of part.now) }
 {
     let mut i = 0;
-    for o in 0..n {
+    for byte in &mut room[..n] {
         i = past_mark(part, i);
-        room[o] = part[i];
+        *byte = part[i];
         i += 1;
     }
 }
