@@ -7,7 +7,7 @@ use Prim.Native.Nat.{ℕ, ◌+◌, ◌-◌, ◌≤◌}
 use native.Mathlib.Omega.{arith}
 use lib.Dec.{leb}
 use lib.ListN.{length, take, drop, length-append}
-use lib.Seq.{drop-drop, drop_at, take-append_seam}
+use lib.Seq.{drop_at, take-append_seam}
 use borrow.Author.Tests.{le-leb, leb-true}
 use Rattle.rooms.specs.Rooms.{between}
 use Rattle.names.specs.Names.{escape, Name, bad, ended, stopped, read_plain}
@@ -19,7 +19,7 @@ use Rattle.refusals.specs.declared.Refusal.{Refusal}
 use Rattle.refusals.specs.declared.Refusal.TheVariants.{NotAKey}
 use Rattle.key.specs.declared.Found.{Found}
 use Rattle.key.specs.declared.Read.{Read}
-use Rattle.key.specs.Key.{hex_word, key_of, key_of_parts, Parts, PartsFit, after_maker, after_device, read_key, read_of, found_of, maker_of, device_of, device_start, is_words, digits_word, words_of}
+use Rattle.key.specs.Key.{hex_word, key_of, key_of_parts, Parts, PartsFit, after_maker, after_device, read_key, found_of, maker_of, device_of, device_start, is_words, digits_word, words_of}
 use Rattle.key.proofs.Form.{key_length}
 use Rattle.key.proofs.Words.{words_sound, words_told, words_none, word_below, tail_of}
 
@@ -107,16 +107,6 @@ unfolding read_key
 key_given k p e = given_maker k p (read_plain k) (plain_is k) e
 
 -- ---- what is shown
-
-pub read_found : (o : Option Parts) (f : Found) → Ok f ≡ found_of o → Ok (record { date = f.date; serial = f.serial }) ≡ read_of o
-read_found none f e = let z : ◌≡◌ {A = ℕ} 0 1 = cc in absurd (omega arith)
-read_found (some p) f e =
-    let same : f ≡ record { maker_end = length (escape p.maker); device_start = length (escape p.maker) + 1; device_end = length (escape p.maker) + 1 + length (escape p.device); date = p.date; serial = p.serial } = cc in
-    rw same
-
-pub read_refused : (o : Option Parts) (r : Refusal) → Err r ≡ found_of o → Err r ≡ read_of o
-read_refused none r e = let same : r ≡ NotAKey = cc in rw same
-read_refused (some p) r e = let z : ◌≡◌ {A = ℕ} 0 1 = cc in absurd (omega arith)
 
 -- what stands at the places found in the bytes k, which are read as o: both names
 pub record Names (k : List ℕ) (f : Found) (o : Option Parts) : Type 0 where

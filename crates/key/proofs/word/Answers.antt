@@ -1,5 +1,5 @@
 use mathlib.Core.Path.{◌∙◌}
-use Rattle.key.proofs.Words.{Digit, digit_read, no_first, no_second, no_third, no_fourth, word_read}
+use Rattle.key.proofs.Words.{digit_read, no_first, no_second, no_third, no_fourth, word_read}
 use Rattle.key.proofs.word.Goals as goal
 
 pub returns-in_err-a : goal.returns-in_err-a
