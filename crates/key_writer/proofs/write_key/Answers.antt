@@ -4,9 +4,8 @@ use Rattle.key_writer.proofs.write_key.Goals as goal
 
 pub returns-then-maker-gt32 : goal.returns-then-maker-gt32
 returns-then-maker-gt32 c =
-    let a = c.args in
-    let p = key_not a.room.now a.maker.now a.device.now a.date a.serial (λ hm hd. omega (arith, c.then-maker-gt32.either)) in
-    record { value = p.0; room_after = p.1 }
+    let unfit = key_not c.args.room.now c.args.maker.now c.args.device.now c.args.date c.args.serial (λ hm hd. omega (arith, c.then-maker-gt32.either)) in
+    record { value = unfit.0; room_after = unfit.1 }
 
 pub returns : goal.returns
 returns c =
