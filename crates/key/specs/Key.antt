@@ -1,6 +1,9 @@
 -- Pack keys, in the words of document 01, "Key": what a key is, and how bytes are read. Assumes nothing: these are definitions.
-use Rattle.std.specs.Prelude.{◌≡◌, Bool, cond, ◌&&◌, List, [], ◌∷◌, ◌++◌, ℕ, ◌+◌, ◌*◌, ◌-◌, ◌/◌, ◌%◌, ◌≤◌, ◌<◌, eqb, ltb, leb, length, get_or, drop}
+use Rattle.std.specs.Prelude.{◌≡◌, Bool, cond, ◌&&◌, ◌||◌, List, [], ◌∷◌, ◌++◌, ℕ, ◌+◌, ◌*◌, ◌-◌, ◌/◌, ◌%◌, ◌≤◌, ◌<◌, eqb, ltb, leb, length, get_or, drop, Some, None, Result, Ok, Err}
+use Rattle.std.specs.Prelude as code
 use Rattle.std.proofs.Math.Option.{Option, none, some}
+use Rattle.refusals.specs.declared.Refusal.{Refusal}
+use Rattle.refusals.specs.declared.Refusal.TheVariants.{NotAKey}
 use Rattle.names.specs.Names.{escape, Name, bad, ended, stopped, read_plain}
 use Rattle.key.specs.declared.Found.{Found}
 use Rattle.key.specs.declared.Read.{Read}
@@ -48,21 +51,37 @@ date_word year month day = (year - 1980) * 512 + month * 32 + day
 
 -- ---- reading
 
--- the number that a lower-case hexadecimal digit stands for, and 16 for any other byte
+-- a lower-case hexadecimal digit
+abbrev pub is_digit : ℕ → Bool
+is_digit c = (leb 0x30 c && leb c 0x39) || (leb 0x61 c && leb c 0x66)
+
+-- the number that a digit stands for
 abbrev pub digit_value : ℕ → ℕ
-digit_value c = cond (leb 0x30 c && leb c 0x39) (c - 0x30) (cond (leb 0x61 c && leb c 0x66) (c - 0x57) 16)
+digit_value c = cond (leb c 0x39) (c - 0x30) (c - 0x57)
+
+-- the number that a byte stands for, where it is a digit
+abbrev pub digit_of : ℕ → code.Option ℕ
+digit_of c = cond (is_digit c) (Some (digit_value c)) None
 
 -- the bytes begin with four digits
 unfoldable pub is_word : List ℕ → Bool
-is_word s = ltb (digit_value (get_or s 0 0)) 16 && ltb (digit_value (get_or s 1 0)) 16 && ltb (digit_value (get_or s 2 0)) 16 && ltb (digit_value (get_or s 3 0)) 16
+is_word s = is_digit (get_or s 0 0) && is_digit (get_or s 1 0) && is_digit (get_or s 2 0) && is_digit (get_or s 3 0)
 
 -- the number that four digits stand for
 unfoldable pub digits_word : List ℕ → ℕ
 digits_word s = digit_value (get_or s 0 0) * 4096 + digit_value (get_or s 1 0) * 256 + digit_value (get_or s 2 0) * 16 + digit_value (get_or s 3 0)
 
+-- the word that the bytes begin with, where they begin with four digits
+unfoldable pub word_of : List ℕ → code.Option ℕ
+word_of s = cond (is_word s) (Some (digits_word s)) None
+
 -- what follows the names: four digits, 2F, four digits, and no byte more
 unfoldable pub is_words : List ℕ → Bool
 is_words s = eqb (length s) 9 && is_word s && eqb (get_or s 4 0) 0x2F && is_word (drop 5 s)
+
+-- both words, where only they follow the names
+unfoldable pub words_of : List ℕ → code.Option Read
+words_of s = cond (is_words s) (Some (record { date = digits_word s; serial = digits_word (drop 5 s) })) None
 
 -- after the device name, which has up to 32 bytes, come the words (RULES 11.2)
 abbrev pub after_device : List ℕ → Name → Option Parts
@@ -81,23 +100,22 @@ after_maker (stopped maker rest) = cond (leb (length maker) 32) (after_device ma
 unfoldable pub read_key : List ℕ → Option Parts
 read_key bytes = after_maker (read_plain bytes)
 
--- what the reader answers: the two words; of bytes that aren't a key answer 13 and numbers 0 (RULES 1.13)
-abbrev pub read_of : Option Parts → Read
-read_of none = record { answer = 13; date = 0; serial = 0 }
-read_of (some p) = record { answer = 0; date = p.date; serial = p.serial }
+-- what the reader answers: the two words; bytes that aren't a key are refused (RULES 1.13)
+abbrev pub read_of : Option Parts → Result Read Refusal
+read_of none = Err NotAKey
+read_of (some p) = Ok (record { date = p.date; serial = p.serial })
 
 -- the same, and where both names stand: the maker from the first byte on, the device name past the maker's 2F (RULES 11.5)
-abbrev pub found_of : Option Parts → Found
-found_of none = record { answer = 13; maker_end = 0; device_start = 0; device_end = 0; date = 0; serial = 0 }
+abbrev pub found_of : Option Parts → Result Found Refusal
+found_of none = Err NotAKey
 found_of (some p) =
-    record {
-      answer = 0;
+    Ok (record {
       maker_end = length (escape p.maker);
       device_start = length (escape p.maker) + 1;
       device_end = length (escape p.maker) + 1 + length (escape p.device);
       date = p.date;
       serial = p.serial;
-    }
+    })
 
 -- each name, still escaped; of bytes that aren't a key a part of no bytes (RULES 11.5)
 abbrev pub maker_of : Option Parts → List ℕ

@@ -3,6 +3,9 @@
 
 use std::io;
 
+use key::Read;
+use refusals::answer;
+
 fn line(rt: &impl Print) -> io::Result<()> {
     println!(rt)
 }
@@ -34,7 +37,7 @@ fn front(rt: &impl Print, room: &[u8]) -> io::Result<()> {
 // The writer's answer, the length, and the first 24 bytes of the room as the writer left it.
 fn write(rt: &impl Print, maker: &[u8], device: &[u8], room: &mut [u8]) -> io::Result<()> {
     let wrote = key_writer::write_key(maker, device, 0x526F, 17, room);
-    print!(rt; "{} {}", wrote.answer, wrote.length)?;
+    print!(rt; "{} {}", answer(&wrote), wrote.unwrap_or(0))?;
     front(rt, room)?;
     line(rt)
 }
@@ -42,7 +45,9 @@ fn write(rt: &impl Print, maker: &[u8], device: &[u8], room: &mut [u8]) -> io::R
 // The reader's answer, the words, both names still escaped, and the maker plain.
 fn read(rt: &impl Print, bytes: &[u8]) -> io::Result<()> {
     let read = key::read_key(bytes);
-    print!(rt; "{} {} {}", read.answer, read.date, read.serial)?;
+    let number = answer(&read);
+    let Read { date, serial } = read.unwrap_or(Read { date: 0, serial: 0 });
+    print!(rt; "{number} {date} {serial}")?;
     let maker = key::maker_part(bytes);
     bracket(rt, maker)?;
     bracket(rt, key::device_part(bytes))?;
@@ -54,7 +59,7 @@ fn read(rt: &impl Print, bytes: &[u8]) -> io::Result<()> {
 fn plain(rt: &impl Print, part: &[u8]) -> io::Result<()> {
     let mut room = [0x2Eu8; 4];
     let wrote = names::unescape(part, &mut room);
-    print!(rt; " {} {}", wrote.answer, wrote.length)?;
+    print!(rt; " {} {}", answer(&wrote), wrote.unwrap_or(0))?;
     bracket(rt, &room)
 }
 

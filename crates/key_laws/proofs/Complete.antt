@@ -7,31 +7,40 @@ use Prim.Native.Nat.{ℕ, ◌+◌, ◌/◌, ◌%◌, ◌≤◌, ◌<◌}
 use native.Mathlib.Omega.{arith}
 use lib.Dec.{ltb}
 use lib.ListN.{length, get_or, drop, length-append}
-use borrow.Author.Tests.{le-leb, lt-leb, lt-ltb, ltb-true, ltb-false, eq-eqb}
+use borrow.Author.Tests.{le-leb, lt-leb, ltb-true, ltb-false, eq-eqb}
 use Rattle.names.specs.Names.{escape}
-use Rattle.key.specs.Key.{hex_digit, hex_word, key_of, key_of_parts, Parts, PartsFit, digit_value, is_word, digits_word, is_words, read_key}
+use Rattle.key.specs.Key.{hex_digit, hex_word, key_of, key_of_parts, Parts, PartsFit, is_digit, digit_value, is_word, digits_word, is_words, read_key}
 use Rattle.names.proofs.Reading.{read_stopped}
 use Rattle.key.proofs.Form.{word_length}
 use Rattle.key.proofs.Words.{tail_of}
 
--- a digit stands for its number
+-- a digit is one, and stands for its number
+pub digit_hex : (n : ℕ) → n < 16 → is_digit (hex_digit n) ≡ true
+digit_hex n h = go (ltb n 10) refl
+  where
+    go : (t : Bool) → ltb n 10 ≡ t → is_digit (hex_digit n) ≡ true
+    go true e =
+        let l : n < 10 = ltb-true n 10 e in
+        simp (e, le-leb 0x30 (0x30 + n) (omega arith), le-leb (0x30 + n) 0x39 (omega arith))
+    go false e =
+        let l : 10 ≤ n = ltb-false n 10 e in
+        simp (e, le-leb 0x30 (0x57 + n) (omega arith), lt-leb (0x57 + n) 0x39 (omega arith), le-leb 0x61 (0x57 + n) (omega arith), le-leb (0x57 + n) 0x66 (omega arith))
+
 pub value_hex : (n : ℕ) → n < 16 → digit_value (hex_digit n) ≡ n
 value_hex n h = go (ltb n 10) refl
   where
     go : (t : Bool) → ltb n 10 ≡ t → digit_value (hex_digit n) ≡ n
     go true e =
         let l : n < 10 = ltb-true n 10 e in
-        simp (e, le-leb 0x30 (0x30 + n) (omega arith), le-leb (0x30 + n) 0x39 (omega arith)) (omega arith)
+        simp (e, le-leb (0x30 + n) 0x39 (omega arith)) (omega arith)
     go false e =
         let l : 10 ≤ n = ltb-false n 10 e in
-        simp (e, le-leb 0x30 (0x57 + n) (omega arith), lt-leb (0x57 + n) 0x39 (omega arith), le-leb 0x61 (0x57 + n) (omega arith), le-leb (0x57 + n) 0x66 (omega arith)) (omega arith)
+        simp (e, lt-leb (0x57 + n) 0x39 (omega arith)) (omega arith)
 
 module _ (w : ℕ) (h : w < 65536) (t : List ℕ) where
   pub is-word : is_word (hex_word w ++ t) ≡ true
   unfolding is_word hex_word
-  is-word =
-      let a : w / 4096 < 16 = omega arith in
-      simp (value_hex (w / 4096) a, value_hex (w / 256 % 16) (omega arith), value_hex (w / 16 % 16) (omega arith), value_hex (w % 16) (omega arith), lt-ltb (w / 4096) 16 a, lt-ltb (w / 256 % 16) 16 (omega arith), lt-ltb (w / 16 % 16) 16 (omega arith), lt-ltb (w % 16) 16 (omega arith))
+  is-word = rw (digit_hex (w / 4096) (omega arith), digit_hex (w / 256 % 16) (omega arith), digit_hex (w / 16 % 16) (omega arith), digit_hex (w % 16) (omega arith))
 
   pub word_of : digits_word (hex_word w ++ t) ≡ w
   unfolding digits_word hex_word

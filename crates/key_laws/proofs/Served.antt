@@ -9,6 +9,8 @@ use lib.Seq.{take-append_seam}
 use lib.Dec.{ltb}
 use mathlib.Mathlib.Data.Bool.Basic.{or-eq-false-eq-eq-false-and-eq-false}
 use borrow.Author.Tests.{le-ltb, ltb-false}
+use Rattle.std.specs.Prelude.{Ok, Err}
+use Rattle.refusals.specs.declared.Refusal.TheVariants.{NoFit}
 use Rattle.rooms.specs.Rooms.{Bytes}
 use Rattle.names.specs.Names.{marked, escape_byte, escape}
 use Rattle.key.specs.Key.{key_of_parts, Parts, PartsFit, IsKey}
@@ -31,6 +33,7 @@ gives k i =
       date-word = i.fit.date_fits;
       serial_word = i.fit.serial_fits;
       room = replicate 139 0;
+      count = length (key_of_parts p);
       served = rw o;
       front = rw o (take-append_seam (key_of_parts p) _ ∙ sym i.given);
     }
@@ -43,14 +46,19 @@ is_given k w = go (refused p.maker p.device w.room) refl
     p = w.parts
 
     go : (t : Bool) → refused p.maker p.device w.room ≡ t → IsKey k
-    go true e = let z : ◌≡◌ {A = ℕ} 12 0 = rw e at w.served in absurd (omega arith)
+    go true e =
+        let refusal : Err NoFit ≡ Ok w.count = rw e at w.served in
+        let z : ◌≡◌ {A = ℕ} 0 1 = cc in
+        absurd (omega arith)
     go false e =
+        let answered : Ok (length (key_of_parts p)) ≡ Ok w.count = rw e at w.served in
+        let n : w.count ≡ length (key_of_parts p) = cc in
         let a = (or-eq-false-eq-eq-false-and-eq-false (ltb 32 (length p.maker) || ltb 32 (length p.device)) (ltb (length w.room) 139)).0 e in
         let b = (or-eq-false-eq-eq-false-and-eq-false (ltb 32 (length p.maker)) (ltb 32 (length p.device))).0 a.0 in
         record {
           parts = p;
           fit = record { maker_fits = ltb-false _ _ b.0; device_fits = ltb-false _ _ b.1; date_fits = w.date-word; serial_fits = w.serial_word };
-          given = sym (rw e at w.front) ∙ take-append_seam (key_of_parts p) _;
+          given = sym (rw (e, n) at w.front) ∙ take-append_seam (key_of_parts p) _;
         }
 
 -- ---- bytes

@@ -8,6 +8,9 @@ use native.Mathlib.Omega.{arith}
 use lib.Dec.{leb}
 use lib.ListN.{length}
 use borrow.Author.Tests.{le-leb, leb-true}
+use Rattle.std.specs.Prelude.{Err}
+use Rattle.refusals.specs.declared.Refusal.TheVariants.{NotAKey}
+use Rattle.refusals.specs.Numbers.{answer_of}
 use Rattle.rooms.specs.Rooms.{Bytes}
 use Rattle.names.specs.Names.{escape, unescaped, of_key, name_in}
 use Rattle.key.specs.Key.{hex_word, key_of, key_of_parts, Parts, PartsFit, IsKey, is_words, read_key, read_of, maker_of, device_of, device_start}
@@ -31,19 +34,19 @@ unescape_escape name = rw (read_ended name)
 pub served_is_key : ServedIsKey
 served_is_key k = (λ e. go (read_key k) refl e, λ i. rw (i.given, read_back i.parts i.fit))
   where
-    go : (o : Option Parts) → read_key k ≡ o → (read_of o).answer ≡ 0 → IsKey k
+    go : (o : Option Parts) → read_key k ≡ o → answer_of (read_of o) ≡ 0 → IsKey k
     go none f e = absurd (omega arith)
     go (some p) f e = let g = key_given k p f in record { parts = p; fit = g.0; given = g.1 }
 
--- bytes that aren't a key get answer 13, numbers 0 and parts of no bytes, the device name's too at their first byte
+-- bytes that aren't a key are refused as such, and shown as parts of no bytes, the device name's too at their first byte
 pub not_key : NotKey
 not_key k n = go (read_key k) refl
   where
-    go : (o : Option Parts) → read_key k ≡ o → (read_of o ≡ record { answer = 13; date = 0; serial = 0 }) × (maker_of o ≡ []) × (device_of o ≡ []) × (device_start o ≡ 0)
+    go : (o : Option Parts) → read_key k ≡ o → (read_of o ≡ Err NotAKey) × (maker_of o ≡ []) × (device_of o ≡ []) × (device_start o ≡ 0)
     go none f = (refl, refl, refl, refl)
     go (some p) f = let g = key_given k p f in absurd (n (record { parts = p; fit = g.0; given = g.1 }))
 
--- the same of the writer's contract: some call of it that is answered 0 puts these bytes at the front of its room
+-- the same of the writer's contract: some call of it that is served puts these bytes at the front of its room
 pub is_key_written : IsKeyWritten
 is_key_written k = (gives k, is_given k)
 

@@ -1,6 +1,8 @@
 -- What is proved of pack keys, over the definitions of the crates `key` and `key_writer`. Assumes nothing: these are definitions.
-use Rattle.std.specs.Prelude.{◌≡◌, ◌↔◌, List, [], ◌∷◌, ◌++◌, ℕ, ◌+◌, ◌≤◌, ◌<◌, length, take, replicate}
+use Rattle.std.specs.Prelude.{◌≡◌, ◌↔◌, List, [], ◌∷◌, ◌++◌, ℕ, ◌+◌, ◌≤◌, ◌<◌, length, take, replicate, Ok, Err}
 use Rattle.std.proofs.Math.Option.{none, some}
+use Rattle.refusals.specs.declared.Refusal.TheVariants.{NotAKey}
+use Rattle.refusals.specs.Numbers.{answer_of}
 use Rattle.rooms.specs.Rooms.{Bytes}
 use Rattle.names.specs.Names.{escape, unescaped, name_in}
 use Rattle.key.specs.Key.{hex_word, key_of_parts, Parts, PartsFit, IsKey, read_key, read_of, maker_of, device_of, device_start}
@@ -12,23 +14,24 @@ UnescapeEscape = (name : List ℕ) → unescaped (escape name) ≡ some name
 
 -- 2. bytes are a key exactly when the reader serves them
 abbrev pub ServedIsKey : Type 0
-ServedIsKey = (k : List ℕ) → ((read_of (read_key k)).answer ≡ 0) ↔ IsKey k
+ServedIsKey = (k : List ℕ) → (answer_of (read_of (read_key k)) ≡ 0) ↔ IsKey k
 
--- bytes that aren't a key get answer 13, numbers 0 and parts of no bytes, the device name's too at their first byte
+-- bytes that aren't a key are refused as such, and shown as parts of no bytes, the device name's too at their first byte
 abbrev pub NotKey : Type 0
 NotKey =
     (k : List ℕ) → (IsKey k → ⊥)
-    → (read_of (read_key k) ≡ record { answer = 13; date = 0; serial = 0 }) × (maker_of (read_key k) ≡ []) × (device_of (read_key k) ≡ [])
+    → (read_of (read_key k) ≡ Err NotAKey) × (maker_of (read_key k) ≡ []) × (device_of (read_key k) ≡ [])
     × (device_start (read_key k) ≡ 0)
 
--- the writer gives the bytes: for some four parts and some room it answers 0 and they stand at the room's front
+-- the writer gives the bytes: for some four parts and some room it answers their length and they stand at the room's front
 pub record WriterGives (bytes : List ℕ) : Type 0 where
   pub parts : Parts
   pub date-word : parts.date < 65536
   pub serial_word : parts.serial < 65536
   pub room : List ℕ
-  pub served : (key_wrote parts.maker parts.device parts.date parts.serial room).answer ≡ 0
-  pub front : take (key_wrote parts.maker parts.device parts.date parts.serial room).length (key_room parts.maker parts.device parts.date parts.serial room) ≡ bytes
+  pub count : ℕ
+  pub served : key_wrote parts.maker parts.device parts.date parts.serial room ≡ Ok count
+  pub front : take count (key_room parts.maker parts.device parts.date parts.serial room) ≡ bytes
 
 -- and exactly when the writer gives them for some four parts
 abbrev pub IsKeyWritten : Type 0
@@ -50,7 +53,7 @@ NoKeyBeginsAnother = (k s : List ℕ) → IsKey k → IsKey (k ++ s) → s ≡ [
 abbrev pub ReadWritten : Type 0
 ReadWritten =
     (p : Parts) → PartsFit p
-    → (read_of (read_key (key_of_parts p)) ≡ record { answer = 0; date = p.date; serial = p.serial })
+    → (read_of (read_key (key_of_parts p)) ≡ Ok (record { date = p.date; serial = p.serial }))
     × (maker_of (read_key (key_of_parts p)) ≡ escape p.maker) × (device_of (read_key (key_of_parts p)) ≡ escape p.device)
     × (device_start (read_key (key_of_parts p)) ≡ length (escape p.maker) + 1)
 

@@ -1,13 +1,15 @@
 -- The laws of writing a key: names and words laid one after the other. Assumes nothing.
-use mathlib.Core.Path.{◌≡◌, sym, ap, ◌∙◌}
-use mathlib.Core.Bool.{true}
+use mathlib.Core.Path.{◌≡◌, refl, sym, ap, ◌∙◌}
+use mathlib.Core.Bool.{Bool, true, false, ◌||◌}
 use mathlib.Core.List.{List, [], ◌∷◌, ◌++◌, append_assoc}
 use Prim.Native.Nat.{ℕ, suc, ◌+◌, ◌*◌, ◌/◌, ◌%◌, ◌≤◌, ◌<◌}
 use native.Mathlib.Omega.{arith}
 use lib.ListN.{length, take, get_or, set, length-append}
 use lib.Seq.{sets, length-take-le}
-use borrow.Author.Tests.{lt-ltb, le-ltb}
-use Rattle.rooms.specs.Rooms.{wrote}
+use lib.Dec.{ltb}
+use borrow.Author.Tests.{lt-ltb, le-ltb, ltb-false}
+use Rattle.std.specs.Prelude.{Ok, Err}
+use Rattle.refusals.specs.declared.Refusal.TheVariants.{NoFit}
 use Rattle.rooms.proofs.Rooms.{then, front}
 use Rattle.names.specs.Names.{escape_byte, escape}
 use Rattle.key.specs.Key.{hex_digit, hex_word, key_of}
@@ -73,7 +75,7 @@ key_laid l m d x y {a} {b} ea e₁ eb e₃ e₅ e₇ =
 -- ---- what is refused, and what is not
 
 pub key-wrote : (l m d : List ℕ) (x y : ℕ) {n : ℕ} {l' : List ℕ} → length m ≤ 32 → length d ≤ 32 → 139 ≤ length l → n ≡ length (escape m) + length (escape d) + 11
-    → l' ≡ sets l 0 (key_of m d x y) → (wrote 0 n ≡ key_wrote m d x y l) × (l' ≡ key_room m d x y l)
+    → l' ≡ sets l 0 (key_of m d x y) → (Ok n ≡ key_wrote m d x y l) × (l' ≡ key_room m d x y l)
 unfolding key_wrote key_room refused
 key-wrote l m d x y {n} {l'} hm hd hl en e =
     let K : List ℕ = key_of m d x y in
@@ -81,18 +83,11 @@ key-wrote l m d x y {n} {l'} hm hd hl en e =
     let fits : length K ≤ length l = omega (arith, key_length m d x y, escape_length m, escape_length d) in
     (simp (le-ltb _ _ hm, le-ltb _ _ hd, le-ltb _ _ hl, ek), simp (le-ltb _ _ hm, le-ltb _ _ hd, le-ltb _ _ hl) (e ∙ front K l fits))
 
-pub key_not : (l m d : List ℕ) (x y : ℕ) → refused m d l ≡ true → (wrote 12 0 ≡ key_wrote m d x y l) × (l ≡ key_room m d x y l)
-unfolding key_wrote key_room
-key_not l m d x y w = (rw w, rw w)
-
-pub not_maker : (m d l : List ℕ) → 32 < length m → refused m d l ≡ true
-unfolding refused
-not_maker m d l h = simp (lt-ltb _ _ h)
-
-pub not_device : (m d l : List ℕ) → length m ≤ 32 → 32 < length d → refused m d l ≡ true
-unfolding refused
-not_device m d l hm h = simp (le-ltb _ _ hm, lt-ltb _ _ h)
-
-pub not_room : (m d l : List ℕ) → length m ≤ 32 → length d ≤ 32 → length l < 139 → refused m d l ≡ true
-unfolding refused
-not_room m d l hm hd h = simp (le-ltb _ _ hm, le-ltb _ _ hd, lt-ltb _ _ h)
+pub key_not : (l m d : List ℕ) (x y : ℕ) → (length m ≤ 32 → length d ≤ 32 → length l < 139) → (Err NoFit ≡ key_wrote m d x y l) × (l ≡ key_room m d x y l)
+unfolding key_wrote key_room refused
+key_not l m d x y h = let w = go (ltb 32 (length m)) (ltb 32 (length d)) refl refl in (rw w, rw w)
+  where
+    go : (p q : Bool) → ltb 32 (length m) ≡ p → ltb 32 (length d) ≡ q → ltb 32 (length m) || ltb 32 (length d) || ltb (length l) 139 ≡ true
+    go true q e f = simp e
+    go false true e f = simp (e, f)
+    go false false e f = simp (e, f, lt-ltb _ _ (h (ltb-false _ _ e) (ltb-false _ _ f)))

@@ -8,7 +8,7 @@ ghost use Rattle.key.specs.Key.{hex_digit, hex_word};
 ghost use Rattle.key_writer.specs.Writing.{key_wrote, key_room};
 
 use names::is_marked;
-use rooms::Wrote;
+use refusals::Refusal;
 
 // The byte as a key has it, written at a place.
 fn put_byte(b: u8, room: &mut [u8], at: usize) -> usize
@@ -17,7 +17,7 @@ fn put_byte(b: u8, room: &mut [u8], at: usize) -> usize
     ensures room_after { room.new ≡ sets room.old at (escape_byte b) }
 {
     if is_marked(b) {
-        room[at] = 0x5C;
+        room[at] = b'\\';
         room[at + 1] = b;
         return at + 2;
     }
@@ -32,11 +32,9 @@ fn put_name(name: &[u8], room: &mut [u8], at: usize) -> usize
     ensures room_after { room.new ≡ sets room.old at (escape name.now) }
     ensures lower_bound { (at ≤ result) × (result ≤ at + 2 * length name.now) }
 {
-    let mut j = 0;
     let mut o = at;
-    while j < name.len() {
-        o = put_byte(name[j], room, o);
-        j += 1;
+    for b in name {
+        o = put_byte(*b, room, o);
     }
     o
 }
@@ -45,11 +43,8 @@ fn digit(n: u16) -> u8
     requires { n < 16 }
     ensures { result ≡ hex_digit n }
 {
-    if n < 10 {
-        (0x30 + n) as u8
-    } else {
-        (0x57 + n) as u8
-    }
+    let n = n as u8;
+    if n < 10 { b'0' + n } else { b'a' - 10 + n }
 }
 
 // A word as four digits, written at a place.
@@ -63,38 +58,26 @@ fn put_word(w: u16, room: &mut [u8], at: usize)
     room[at + 3] = digit(w % 16);
 }
 
-// The key of four parts, at the front of the room. Answer 12: a name over 32 bytes, or a room under 139.
-pub fn write_key(maker: &[u8], device: &[u8], date: u16, serial: u16, room: &mut [u8]) -> Wrote
+// The key of four parts, at the front of the room; its length.
+pub fn write_key(
+    maker: &[u8],
+    device: &[u8],
+    date: u16,
+    serial: u16,
+    room: &mut [u8],
+) -> Result<usize, Refusal>
     ensures value { result ≡ key_wrote maker.now device.now date serial room.old }
     ensures room_after { room.new ≡ key_room maker.now device.now date serial room.old }
 {
-    if 32 < maker.len() {
-        return Wrote {
-            answer: 12,
-            length: 0,
-        };
-    }
-    if 32 < device.len() {
-        return Wrote {
-            answer: 12,
-            length: 0,
-        };
-    }
-    if room.len() < 139 {
-        return Wrote {
-            answer: 12,
-            length: 0,
-        };
+    if maker.len() > 32 || device.len() > 32 || room.len() < 139 {
+        return Err(Refusal::NoFit);
     }
     let a = put_name(maker, room, 0);
-    room[a] = 0x2F;
+    room[a] = b'/';
     let b = put_name(device, room, a + 1);
-    room[b] = 0x2F;
+    room[b] = b'/';
     put_word(date, room, b + 1);
-    room[b + 5] = 0x2F;
+    room[b + 5] = b'/';
     put_word(serial, room, b + 6);
-    Wrote {
-        answer: 0,
-        length: b + 10,
-    }
+    Ok(b + 10)
 }

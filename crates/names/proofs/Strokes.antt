@@ -10,35 +10,32 @@ use lib.ListN.{length, drop, length-append, length-drop}
 use lib.Seq.{drop-drop, drop_at}
 use borrow.Author.Tests.{leb-true}
 use Rattle.names.specs.Names.{escape, Name, bad, ended, stopped, read_plain}
-use Rattle.names.specs.Steps.{number_of, stroke_of}
+use Rattle.std.specs.Prelude.{Option, Some, None}
+use Rattle.names.specs.declared.Ending.{Ending}
+use Rattle.names.specs.declared.Ending.TheVariants.{Stopped, Ended, Bad}
+use Rattle.names.specs.Steps.{ending_of, stroke_of}
 use Rattle.names.proofs.Reading.{Is, plain_is}
 
 -- ---- where a name ends
 
-module _ (k : List ℕ) (from number : ℕ) (told : number ≡ number_of (read_plain (drop from k)) from 0 (length k)) where
-  pub stroke-none : length k < number → length k ≡ stroke_of (read_plain (drop from k)) from (length k)
-  stroke-none h = go (read_plain (drop from k)) (plain_is (drop from k)) told
-    where
-      go : (r : Name) → Is (drop from k) r → number ≡ number_of r from 0 (length k) → length k ≡ stroke_of r from (length k)
-      go bad i e = refl
-      go (ended name) i e = refl
-      go (stopped name rest) i e = short (leb (length name) 32) (rw zero-add at e)
-        where
-          short : (t : Bool) → number ≡ cond t (from + length (escape name)) (length k) → length k ≡ cond t (from + length (escape name)) (length k)
-          short true f = absurd (omega (arith, simp (length-append, length-drop) at (ap length i)))
-          short false f = refl
+-- what a reading from a name's first byte on tells of its stroke
+abbrev pub told : Ending → Option ℕ
+told (Stopped at) = Some at
+told (Ended n) = None
+told Bad = None
 
-  pub stroke-at : number ≤ length k → number ≡ stroke_of (read_plain (drop from k)) from (length k)
-  stroke-at h = go (read_plain (drop from k)) told
-    where
-      short : (n : ℕ) (t : Bool) → number ≡ cond t (length k + 1 + n) (length k) → number ≡ length k
-      short n true f = absurd (omega arith)
-      short n false f = f
-
-      go : (r : Name) → number ≡ number_of r from 0 (length k) → number ≡ stroke_of r from (length k)
-      go bad e = e
-      go (ended name) e = short (0 + length name) (leb (0 + length name) 32) e
-      go (stopped name rest) e = rw zero-add at e
+pub stroke_told : (r : Name) (from : ℕ) {e : Ending} → e ≡ ending_of r from 0 → told e ≡ stroke_of r from
+stroke_told bad from h = rw h
+stroke_told (ended name) from h = rw h (short (leb (0 + length name) 32) _)
+  where
+    short : (t : Bool) (n : ℕ) → told (cond t (Ended n) Bad) ≡ None
+    short true n = refl
+    short false n = refl
+stroke_told (stopped name rest) from h = rw (h, zero-add) (short (leb (length name) 32) _)
+  where
+    short : (t : Bool) (n : ℕ) → told (cond t (Stopped n) Bad) ≡ cond t (Some n) None
+    short true n = refl
+    short false n = refl
 
 -- ---- what such a place says
 
@@ -49,6 +46,7 @@ pub record Named (k : List ℕ) (from b : ℕ) : Type 0 where
   pub short : length name ≤ 32
   pub place : b ≡ from + length (escape name)
   pub next : drop (b + 1) k ≡ rest
+  pub within : b < length k
 
 abbrev pub Unnamed : Name → Type 0
 Unnamed bad = Unit
@@ -61,30 +59,34 @@ past k name rest from e =
     let n : length (escape name ++ (0x2F ∷ [])) ≡ length (escape name) + 1 = length-append (escape name) (0x2F ∷ []) in
     ap (λ (i : ℕ). drop i k) z ∙ sym (drop-drop (length (escape name) + 1) from k) ∙ ap (drop (length (escape name) + 1)) (e ∙ sym (append_assoc (escape name) (0x2F ∷ []) rest)) ∙ drop_at (escape name ++ (0x2F ∷ [])) rest _ n
 
-pub named : (k : List ℕ) (from b : ℕ) → b ≡ stroke_of (read_plain (drop from k)) from (length k) → b < length k → Named k from b
-named k from b e h = go (read_plain (drop from k)) (plain_is (drop from k)) refl e
+pub named : (k : List ℕ) (from b : ℕ) → Some b ≡ stroke_of (read_plain (drop from k)) from → Named k from b
+named k from b e = go (read_plain (drop from k)) (plain_is (drop from k)) refl e
   where
-    go : (r : Name) → Is (drop from k) r → read_plain (drop from k) ≡ r → b ≡ stroke_of r from (length k) → Named k from b
-    go bad i f e = absurd (omega arith)
-    go (ended name) i f e = absurd (omega arith)
+    go : (r : Name) → Is (drop from k) r → read_plain (drop from k) ≡ r → Some b ≡ stroke_of r from → Named k from b
+    go bad i f e = let z : ◌≡◌ {A = ℕ} 0 1 = cc in absurd (omega arith)
+    go (ended name) i f e = let z : ◌≡◌ {A = ℕ} 0 1 = cc in absurd (omega arith)
     go (stopped name rest) i f e = short (leb (length name) 32) refl
       where
         short : (t : Bool) → leb (length name) 32 ≡ t → Named k from b
         short true g =
-            let p : b ≡ from + length (escape name) = rw g at e in
-            record { name = name; rest = rest; reads = f; short = leb-true _ _ g; place = p; next = ap (λ (j : ℕ). drop (j + 1) k) p ∙ past k name rest from i }
-        short false g = let p : b ≡ length k = rw g at e in absurd (omega arith)
+            let e' : Some b ≡ Some (from + length (escape name)) = rw g at e in
+            let p : b ≡ from + length (escape name) = cc in
+            record {
+              name = name;
+              rest = rest;
+              reads = f;
+              short = leb-true _ _ g;
+              place = p;
+              next = ap (λ (j : ℕ). drop (j + 1) k) p ∙ past k name rest from i;
+              within = omega (arith, simp (length-append, length-drop) at (ap length i));
+            }
+        short false g = let e' : Some b ≡ None = rw g at e in let z : ◌≡◌ {A = ℕ} 0 1 = cc in absurd (omega arith)
 
-pub unnamed : (k : List ℕ) (from b : ℕ) → b ≡ stroke_of (read_plain (drop from k)) from (length k) → length k ≤ b → Unnamed (read_plain (drop from k))
-unnamed k from b e h = go (read_plain (drop from k)) (plain_is (drop from k)) e
+pub unnamed : (r : Name) (from : ℕ) → None ≡ stroke_of r from → Unnamed r
+unnamed bad from e = tt
+unnamed (ended name) from e = tt
+unnamed (stopped name rest) from e = short (leb (length name) 32) _ e
   where
-    go : (r : Name) → Is (drop from k) r → b ≡ stroke_of r from (length k) → Unnamed r
-    go bad i e = tt
-    go (ended name) i e = tt
-    go (stopped name rest) i e = short (leb (length name) 32) refl
-      where
-        short : (t : Bool) → leb (length name) 32 ≡ t → leb (length name) 32 ≡ false
-        short false g = g
-        short true g =
-            let p : b ≡ from + length (escape name) = rw g at e in
-            absurd (omega (arith, simp (length-append, length-drop) at (ap length i)))
+    short : (t : Bool) (n : ℕ) → None ≡ cond t (Some n) None → t ≡ false
+    short false n e = refl
+    short true n e = cc

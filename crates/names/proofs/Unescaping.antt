@@ -4,17 +4,22 @@ use mathlib.Core.Bool.{Bool, true, false, cond}
 use mathlib.Mathlib.Data.Bool.Basic.{or-eq-false-eq-eq-false-and-eq-false}
 use mathlib.Core.List.{List, ◌∷◌, ◌++◌}
 use mathlib.Core.Option.{none, some}
-use Prim.Native.Nat.{ℕ, suc, ◌+◌, ◌-◌, ◌≤◌, ◌<◌}
+use Prim.Native.Nat.{ℕ, suc, ◌+◌, ◌≤◌, ◌<◌}
 use native.Mathlib.Nat.{add-zero, zero-add}
 use native.Mathlib.Omega.{arith}
 use lib.Dec.{eqb, leb}
 use lib.ListN.{length, take, drop, get_or, set, length-append, take-append-drop}
-use lib.Seq.{sets, drop-cons, get_or-append-add}
+use lib.Seq.{sets, take-suc, drop-cons, get_or-append-add}
 use borrow.Author.Tests.{le-ltb, lt-ltb}
-use Rattle.rooms.specs.Rooms.{wrote}
-use Rattle.rooms.proofs.Rooms.{one_more, front}
+use Rattle.std.specs.Prelude.{Ok, Err}
+use Rattle.refusals.specs.declared.Refusal.TheVariants.{NoFit}
+use Rattle.names.specs.declared.Ending.{Ending}
+use Rattle.names.specs.declared.Ending.TheVariants.{Stopped, Ended, Bad}
+use Rattle.std.proofs.lemmas.List.{take_more_set}
+use native.Mathlib.Numerals.{add-one}
+use Rattle.rooms.proofs.Rooms.{front}
 use Rattle.names.specs.Names.{marked, escape_byte, escape, Name, bad, ended, stopped, read_plain, whole, unescaped, of_key, name_in, plain_wrote, plain_room}
-use Rattle.names.specs.Steps.{number_of, plain_of, past_mark}
+use Rattle.names.specs.Steps.{ending_of, plain_of, past_mark}
 use Rattle.names.proofs.Escaping.{escape_append, escape_snoc}
 use Rattle.names.proofs.Reading.{Is, plain_is}
 
@@ -67,56 +72,54 @@ turn part name o i ep h ei =
     let n : length (escape (take (o + 1) name)) ≡ length P + length (escape_byte b) = ap length (escape_snoc name o h) ∙ length-append P (escape_byte b) in
     rw s (record { mark_within = omega (arith, w.0, mark_after i (eqb (get_or (P ++ (escape_byte b ++ t)) i 0) 0x5C)); within = w.0; byte = w.1; next = w.2 ∙ sym n })
 
-pub plain_laid : (name l₀ : List ℕ) (o : ℕ) {l : List ℕ} {b : ℕ} → o < length name → l ≡ sets l₀ 0 (take o name) → b ≡ get_or name o 0 → set l o b ≡ sets l₀ 0 (take (o + 1) name)
-plain_laid name l₀ o {l} h e eb = ap (set l o) eb ∙ ap (λ (i : ℕ). set l i (get_or name o 0)) (sym (zero-add o)) ∙ one_more l₀ 0 o name h e
+pub plain_laid : (name front : List ℕ) (o : ℕ) {b : ℕ} → o < length name → o < length front → take o front ≡ take o name → b ≡ get_or name o 0 → take (o + 1) (set front o b) ≡ take (o + 1) name
+plain_laid name front o hn hf e eb = take_more_set front o _ hf ∙ rw (e, eb, add-one, take-suc name o 0 hn)
 
--- ---- answers
+-- ---- what is answered
 
--- what a number above the length says: the part stands for a name of that many bytes
+-- what a reading to the last byte says: the part stands for a name of that many bytes
 pub record Plain (part : List ℕ) (n : ℕ) : Type 0 where
   pub is : part ≡ escape (plain_of part)
   pub name : name_in part ≡ some (plain_of part)
   pub count : n ≡ length (plain_of part)
 
-module _ (part : List ℕ) (number : ℕ) (told : number ≡ number_of (read_plain part) 0 0 (length part)) where
-  pub plain-none : (room : List ℕ) → number ≤ length part → (wrote 13 0 ≡ plain_wrote (name_in part) room) × (room ≡ plain_room (name_in part) room)
-  unfolding name_in unescaped
-  plain-none room h = go (read_plain part) told
-    where
-      short : (name : List ℕ) (p : Bool) → number ≡ cond p (length part + 1 + length name) (length part)
-          → (wrote 13 0 ≡ plain_wrote (cond p (some name) none) room) × (room ≡ plain_room (cond p (some name) none) room)
-      short name true e = absurd (omega arith)
-      short name false e = (refl, refl)
+pub plain-some : (part : List ℕ) (n : ℕ) → Ended n ≡ ending_of (read_plain part) 0 0 → Plain part n
+unfolding name_in unescaped
+plain-some part n told = go (read_plain part) (plain_is part) refl told
+  where
+    short : (name : List ℕ) → part ≡ escape name → read_plain part ≡ ended name → (p : Bool) → leb (length name) 32 ≡ p → Ended n ≡ cond p (Ended (length name)) Bad → Plain part n
+    short name i f true g e = let z : n ≡ length name = cc in record { is = rw f i; name = rw (f, g); count = rw f z }
+    short name i f false g e = let z : ◌≡◌ {A = ℕ} 0 1 = cc in absurd (omega arith)
 
-      go : (r : Name) → number ≡ number_of r 0 0 (length part) → (wrote 13 0 ≡ plain_wrote (of_key (whole r)) room) × (room ≡ plain_room (of_key (whole r)) room)
-      go bad e = (refl, refl)
-      go (ended name) e = short name (leb (length name) 32) (rw zero-add at e)
-      go (stopped name rest) e = (refl, refl)
+    no_stroke : (p : Bool) (at : ℕ) → Ended n ≡ cond p (Stopped at) Bad → ⊥
+    no_stroke true at e = let z : ◌≡◌ {A = ℕ} 0 1 = cc in omega arith
+    no_stroke false at e = let z : ◌≡◌ {A = ℕ} 0 1 = cc in omega arith
 
-  pub plain-some : length part < number → Plain part (number - length part - 1)
-  unfolding name_in unescaped
-  plain-some h = go (read_plain part) (plain_is part) refl told
-    where
-      short : (name : List ℕ) → part ≡ escape name → read_plain part ≡ ended name → (p : Bool) → leb (length name) 32 ≡ p → number ≡ cond p (length part + 1 + length name) (length part) → Plain part (number - length part - 1)
-      short name i f true g e = record { is = rw f i; name = rw (f, g); count = rw f (omega arith) }
-      short name i f false g e = absurd (omega arith)
+    go : (r : Name) → Is part r → read_plain part ≡ r → Ended n ≡ ending_of r 0 0 → Plain part n
+    go bad i f e = let z : ◌≡◌ {A = ℕ} 0 1 = cc in absurd (omega arith)
+    go (ended name) i f e = short name i f (leb (length name) 32) refl (rw zero-add at e)
+    go (stopped name rest) i f e = absurd (no_stroke (leb (0 + length name) 32) _ e)
 
-      within : (name rest : List ℕ) → part ≡ escape name ++ (0x2F ∷ rest) → (p : Bool) → number ≡ cond p (0 + length (escape name)) (length part) → number ≤ length part
-      within name rest i true e = omega (arith, simp length-append at (ap length i))
-      within name rest i false e = omega arith
+pub plain-none : (part : List ℕ) {e : Ending} → e ≡ ending_of (read_plain part) 0 0 → ((n : ℕ) → e ≡ Ended n → ⊥) → name_in part ≡ none
+unfolding name_in unescaped
+plain-none part {e} told h = go (read_plain part) told
+  where
+    short : (name : List ℕ) (p : Bool) → e ≡ cond p (Ended (length name)) Bad → cond p (some name) none ≡ none
+    short name true f = absurd (h _ f)
+    short name false f = refl
 
-      go : (r : Name) → Is part r → read_plain part ≡ r → number ≡ number_of r 0 0 (length part) → Plain part (number - length part - 1)
-      go bad i f e = absurd (omega arith)
-      go (ended name) i f e = short name i f (leb (length name) 32) refl (rw zero-add at e)
-      go (stopped name rest) i f e = absurd (omega (arith, within name rest i (leb (0 + length name) 32) e))
+    go : (r : Name) → e ≡ ending_of r 0 0 → of_key (whole r) ≡ none
+    go bad f = refl
+    go (ended name) f = short name (leb (length name) 32) (rw zero-add at f)
+    go (stopped name rest) f = refl
 
 module _ (part room : List ℕ) {n : ℕ} (p : Plain part n) where
-  pub plain-long : length room < n → (wrote 12 0 ≡ plain_wrote (name_in part) room) × (room ≡ plain_room (name_in part) room)
+  pub plain-long : length room < n → (Err NoFit ≡ plain_wrote (name_in part) room) × (room ≡ plain_room (name_in part) room)
   plain-long h =
       let l : length room < length (plain_of part) = omega (arith, p.count) in
       (rw (p.name, lt-ltb _ _ l), rw (p.name, lt-ltb _ _ l))
 
-  pub plain-wrote : {l : List ℕ} → n ≤ length room → l ≡ sets room 0 (plain_of part) → (wrote 0 n ≡ plain_wrote (name_in part) room) × (l ≡ plain_room (name_in part) room)
+  pub plain-wrote : {l : List ℕ} → n ≤ length room → l ≡ sets room 0 (plain_of part) → (Ok n ≡ plain_wrote (name_in part) room) × (l ≡ plain_room (name_in part) room)
   plain-wrote h el =
       let f : length (plain_of part) ≤ length room = omega (arith, p.count) in
-      (rw (p.name, le-ltb _ _ f) (ap (wrote 0) p.count), rw (p.name, le-ltb _ _ f) (el ∙ front (plain_of part) room f))
+      (rw (p.name, le-ltb _ _ f) (ap Ok p.count), rw (p.name, le-ltb _ _ f) (el ∙ front (plain_of part) room f))

@@ -1,8 +1,9 @@
 -- A name as a key has it, in the words of document 01, "Key": escaped, read, and read back plain. Assumes nothing: these are definitions.
-use Rattle.std.specs.Prelude.{Bool, cond, ◌||◌, List, [], ◌∷◌, ◌++◌, ℕ, eqb, ltb, leb, length}
+use Rattle.std.specs.Prelude.{Bool, cond, ◌||◌, List, [], ◌∷◌, ◌++◌, ℕ, eqb, ltb, leb, length, Result, Ok, Err}
 use Rattle.std.proofs.Math.Option.{Option, none, some}
-use Rattle.rooms.specs.declared.Wrote.{Wrote}
-use Rattle.rooms.specs.Rooms.{placed, wrote}
+use Rattle.refusals.specs.declared.Refusal.{Refusal}
+use Rattle.refusals.specs.declared.Refusal.TheVariants.{NoFit, NotAKey}
+use Rattle.rooms.specs.Rooms.{placed}
 
 -- ---- a name as the key has it
 
@@ -63,10 +64,10 @@ of_key (some name) = cond (leb (length name) 32) (some name) none
 unfoldable pub name_in : List ℕ → Option (List ℕ)
 name_in part = of_key (unescaped part)
 
--- answer 13 where no key shows such a part, 12 where the room is too short for the plain name (RULES 1.12, 1.13)
-abbrev pub plain_wrote : Option (List ℕ) → List ℕ → Wrote
-plain_wrote none room = wrote 13 0
-plain_wrote (some name) room = cond (ltb (length room) (length name)) (wrote 12 0) (wrote 0 (length name))
+-- how many bytes the plain name has; refused where no key shows such a part, and where the room is shorter than the name (RULES 1.12, 1.13)
+abbrev pub plain_wrote : Option (List ℕ) → List ℕ → Result ℕ Refusal
+plain_wrote none room = Err NotAKey
+plain_wrote (some name) room = cond (ltb (length room) (length name)) (Err NoFit) (Ok (length name))
 
 -- the plain name at the front of the room, and the rest of the room as it was (RULES 2.5)
 abbrev pub plain_room : Option (List ℕ) → List ℕ → List ℕ

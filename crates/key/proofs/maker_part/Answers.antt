@@ -1,14 +1,13 @@
-use mathlib.Core.Path.{ap}
-use Prim.Native.Nat.{ℕ}
-use native.Mathlib.Nat.{zero-add}
 use native.Mathlib.Omega.{arith}
+use lib.Seq.{length-take-le}
+use mathlib.Core.Path.{sym}
 use Rattle.key.proofs.Keys.{names_found}
 use Rattle.key.proofs.maker_part.Goals as goal
 
-pub returns : goal.returns
-returns c =
-    let first = c.args.key.ref_ptr in
-    record { result_value = (names_found _ c.find-f.ensures).maker_is; ref_ptr_value = ap (λ (n : ℕ). (first.0, n)) (zero-add first.1) }
-
 pub slice_bounds-result-end : goal.slice_bounds-result-end
-slice_bounds-result-end c = omega (arith, names_found _ c.find-f.ensures)
+slice_bounds-result-end c =
+    let n = names_found c.args.key.now c.in-Ok.found c.in-Ok.ensures in
+    sym (length-take-le c.in-Ok.found.maker_end c.args.key.now (omega (arith, n)))
+
+pub returns-in-Ok-clause-result_value : goal.returns-in-Ok-clause-result_value
+returns-in-Ok-clause-result_value c = (names_found c.args.key.now c.in-Ok.found c.in-Ok.ensures).maker_is
