@@ -1,6 +1,6 @@
 -- Request R-1, a row of the table: when it is bad, when it is below one fifth; and the figures of no rows.
 -- Assumes nothing.
-use Rattle.std.specs.Prelude.{ℕ, ◌*◌, Bool, ◌||◌, eqb, ltb, if◌then◌else◌, Option, Some, None, Result, Ok, Err}
+use Rattle.std.specs.Prelude.{ℕ, ◌*◌, Bool, ◌||◌, eqb, ltb, if◌then◌else◌, Option, None, Result, Ok, Err, unwrap_or}
 use Rattle.refusals.specs.declared.Refusal.{Refusal}
 use Rattle.refusals.specs.declared.Refusal.TheVariants.{TooManyRows}
 use Rattle.shelf_row.specs.declared.Figures.{Figures}
@@ -28,5 +28,4 @@ begun rows = if is_many rows then Err TooManyRows else Ok no_rows
 
 -- the lowest row as its three numbers: of none, zeros (RULES 13.7)
 abbrev pub shown : Option Lowest → Lowest
-shown (Some lowest) = lowest
-shown None = record { remaining = 0; full = 0; place = 0 }
+shown lowest = unwrap_or lowest (record { remaining = 0; full = 0; place = 0 })
