@@ -9,6 +9,7 @@ use borrow.Author.Tests.{eqb-true, eqb-false, leb-true}
 use lib.Dec.{eqb, leb}
 use lib.ListN.{length, get_or, drop, replicate, length-append}
 use lib.Seq.{sets, take_at, get_or-append-add}
+use Rattle.std.specs.Int.{from_bool}
 use Rattle.rooms.specs.Rooms.{Bytes}
 use Rattle.rooms.proofs.Rooms.{then, whole}
 use Rattle.pack.specs.Fits.{SettingsFit, HostFit, LatestFit, TankFit, TimersFit}
@@ -30,8 +31,8 @@ pub flag_back : (b : Bool) → flagged (flag_of b) ≡ b
 flag_back true = refl
 flag_back false = refl
 
--- a flag is its own byte
-pub flag_byte : (b : Bool) → flag_of b ≡ flag_of b % 256
+-- a flag's byte
+pub flag_byte : (b : Bool) → from_bool b ≡ flag_of b % 256
 flag_byte true = refl
 flag_byte false = refl
 

@@ -3,27 +3,18 @@
 
 ghost use Rattle.std.specs.Prelude.{◌≡◌, length};
 ghost use Rattle.recent.specs.Fits.{RecentFit};
-ghost use Rattle.numbers.specs.Numbers.{bytes_taken, flag_of};
+ghost use Rattle.numbers.specs.Numbers.{bytes_taken};
 ghost use Rattle.area_parts.specs.Parts.{settings_widths, host_widths, latest_widths, tank_widths, timers_widths, recent_widths, settings_bytes, host_bytes, latest_bytes, tank_bytes, timers_bytes, recent_bytes, settings_in, host_in, latest_in, tank_in, timers_in, recent_in, is_settings, is_host, is_tank};
 
-use numbers::{
-    byte_at, long_at, longs_at, number_at, put_longs, put_number, put_words, word_at, words_at,
-};
+use numbers::{number_at, numbers_at, put_number, put_numbers};
 use pack::{Host, Latest, Run, Settings, Tank, Timers};
 use recent::Recent;
-
-// A flag's byte.
-pub fn flag(b: bool) -> u8
-    ensures { result ≡ flag_of b }
-{
-    if b { 1 } else { 0 }
-}
 
 pub fn put_settings(part: &mut [u8], s: Settings)
     requires { length part.old ≡ bytes_taken settings_widths }
     ensures { part.new ≡ settings_bytes s }
 {
-    put_words(
+    put_numbers(
         part,
         0,
         &[
@@ -38,14 +29,14 @@ pub fn put_settings(part: &mut [u8], s: Settings)
             s.DischargeLimit,
         ],
     );
-    part[18] = flag(s.plain);
+    part[18] = u8::from(s.plain);
 }
 
 pub fn put_host(part: &mut [u8], h: Host)
     requires { length part.old ≡ bytes_taken host_widths }
     ensures { part.new ≡ host_bytes h }
 {
-    put_words(
+    put_numbers(
         part,
         0,
         &[
@@ -55,17 +46,17 @@ pub fn put_host(part: &mut [u8], h: Host)
             h.AtRate,
         ],
     );
-    part[8] = flag(h.AlarmMode);
-    part[9] = flag(h.ChargerMode);
-    part[10] = flag(h.CapacityMode);
+    part[8] = u8::from(h.AlarmMode);
+    part[9] = u8::from(h.ChargerMode);
+    part[10] = u8::from(h.CapacityMode);
 }
 
 pub fn put_latest(part: &mut [u8], l: Latest)
     requires { length part.old ≡ bytes_taken latest_widths }
     ensures { part.new ≡ latest_bytes l }
 {
-    put_words(part, 0, &[l.voltage, l.current, l.temperature]);
-    put_number(part, 6, 4, l.counter as u64);
+    put_numbers(part, 0, &[l.voltage, l.current, l.temperature]);
+    put_number(part, 6, 4, u64::from(l.counter));
 }
 
 pub fn put_tank(part: &mut [u8], t: Tank)
@@ -73,20 +64,20 @@ pub fn put_tank(part: &mut [u8], t: Tank)
     ensures { part.new ≡ tank_bytes t }
 {
     put_number(part, 0, 8, t.charge);
-    put_words(part, 8, &[t.full, t.CycleCount]);
-    part[12] = flag(t.FullyDischarged);
+    put_numbers(part, 8, &[t.full, t.CycleCount]);
+    part[12] = u8::from(t.FullyDischarged);
     put_number(part, 13, 8, t.toward);
     put_number(part, 21, 8, t.run.drawn);
-    part[29] = flag(t.run.opened);
+    part[29] = u8::from(t.run.opened);
 }
 
 pub fn put_timers(part: &mut [u8], t: Timers)
     requires { length part.old ≡ bytes_taken timers_widths }
     ensures { part.new ≡ timers_bytes t }
 {
-    put_number(part, 0, 4, t.hold as u64);
-    put_number(part, 4, 4, t.alarm as u64);
-    put_number(part, 8, 4, t.charger as u64);
+    put_number(part, 0, 4, u64::from(t.hold));
+    put_number(part, 4, 4, u64::from(t.alarm));
+    put_number(part, 8, 4, u64::from(t.charger));
 }
 
 pub fn put_recent(part: &mut [u8], r: Recent)
@@ -94,11 +85,10 @@ pub fn put_recent(part: &mut [u8], r: Recent)
     ensures memory { part.new ≡ recent_bytes r }
     ensures fit { RecentFit r }
 {
-    let totals = r.totals;
-    put_longs(part, 0, &totals);
+    put_numbers(part, 0, &r.totals);
     put_number(part, 240, 1, r.count as u64);
-    put_number(part, 241, 2, r.begun as u64);
-    put_number(part, 243, 4, r.total as u64);
+    put_number(part, 241, 2, u64::from(r.begun));
+    put_number(part, 243, 4, u64::from(r.total));
 }
 
 pub fn settings_in(part: &[u8]) -> Settings
@@ -106,7 +96,7 @@ pub fn settings_in(part: &[u8]) -> Settings
     ensures { result ≡ settings_in part.now }
 {
     let mut w = [0u16; 9];
-    words_at(part, 0, &mut w);
+    numbers_at(part, 0, &mut w);
     Settings {
         DesignCapacity: w[0],
         DesignVoltage: w[1],
@@ -117,7 +107,7 @@ pub fn settings_in(part: &[u8]) -> Settings
         ChargingVoltage: w[6],
         TemperatureLimit: w[7],
         DischargeLimit: w[8],
-        plain: byte_at(part, 18) == 1,
+        plain: number_at::<u8>(part, 18) == 1,
     }
 }
 
@@ -125,7 +115,7 @@ pub fn is_settings(part: &[u8]) -> bool
     requires { length part.now ≡ bytes_taken settings_widths }
     ensures { result ≡ is_settings part.now }
 {
-    byte_at(part, 18) <= 1
+    number_at::<u8>(part, 18) <= 1
 }
 
 pub fn host_in(part: &[u8]) -> Host
@@ -133,15 +123,15 @@ pub fn host_in(part: &[u8]) -> Host
     ensures { result ≡ host_in part.now }
 {
     let mut w = [0u16; 4];
-    words_at(part, 0, &mut w);
+    numbers_at(part, 0, &mut w);
     Host {
         ManufacturerAccess: w[0],
         RemainingCapacityAlarm: w[1],
         RemainingTimeAlarm: w[2],
         AtRate: w[3],
-        AlarmMode: byte_at(part, 8) == 1,
-        ChargerMode: byte_at(part, 9) == 1,
-        CapacityMode: byte_at(part, 10) == 1,
+        AlarmMode: number_at::<u8>(part, 8) == 1,
+        ChargerMode: number_at::<u8>(part, 9) == 1,
+        CapacityMode: number_at::<u8>(part, 10) == 1,
     }
 }
 
@@ -149,7 +139,9 @@ pub fn is_host(part: &[u8]) -> bool
     requires { length part.now ≡ bytes_taken host_widths }
     ensures { result ≡ is_host part.now }
 {
-    (byte_at(part, 8) <= 1) & (byte_at(part, 9) <= 1) & (byte_at(part, 10) <= 1)
+    (number_at::<u8>(part, 8) <= 1)
+        & (number_at::<u8>(part, 9) <= 1)
+        & (number_at::<u8>(part, 10) <= 1)
 }
 
 pub fn latest_in(part: &[u8]) -> Latest
@@ -157,12 +149,12 @@ pub fn latest_in(part: &[u8]) -> Latest
     ensures { result ≡ latest_in part.now }
 {
     let mut w = [0u16; 3];
-    words_at(part, 0, &mut w);
+    numbers_at(part, 0, &mut w);
     Latest {
         voltage: w[0],
         current: w[1],
         temperature: w[2],
-        counter: long_at(part, 6),
+        counter: number_at(part, 6),
     }
 }
 
@@ -171,16 +163,16 @@ pub fn tank_in(part: &[u8]) -> Tank
     ensures { result ≡ tank_in part.now }
 {
     let run = Run {
-        opened: byte_at(part, 29) == 1,
-        drawn: number_at(part, 21, 8),
+        opened: number_at::<u8>(part, 29) == 1,
+        drawn: number_at(part, 21),
     };
     Tank {
-        charge: number_at(part, 0, 8),
-        full: word_at(part, 8),
-        CycleCount: word_at(part, 10),
-        FullyDischarged: byte_at(part, 12) == 1,
-        toward: number_at(part, 13, 8),
-        run: run,
+        charge: number_at(part, 0),
+        full: number_at(part, 8),
+        CycleCount: number_at(part, 10),
+        FullyDischarged: number_at::<u8>(part, 12) == 1,
+        toward: number_at(part, 13),
+        run,
     }
 }
 
@@ -188,7 +180,7 @@ pub fn is_tank(part: &[u8]) -> bool
     requires { length part.now ≡ bytes_taken tank_widths }
     ensures { result ≡ is_tank part.now }
 {
-    (byte_at(part, 12) <= 1) & (byte_at(part, 29) <= 1)
+    (number_at::<u8>(part, 12) <= 1) & (number_at::<u8>(part, 29) <= 1)
 }
 
 pub fn timers_in(part: &[u8]) -> Timers
@@ -196,9 +188,9 @@ pub fn timers_in(part: &[u8]) -> Timers
     ensures { result ≡ timers_in part.now }
 {
     Timers {
-        hold: long_at(part, 0),
-        alarm: long_at(part, 4),
-        charger: long_at(part, 8),
+        hold: number_at(part, 0),
+        alarm: number_at(part, 4),
+        charger: number_at(part, 8),
     }
 }
 
@@ -207,12 +199,11 @@ pub fn recent_in(part: &[u8]) -> Recent
     ensures { result ≡ recent_in part.now }
 {
     let mut totals = [0u32; 60];
-    longs_at(part, 0, &mut totals);
-    let count = rooms::wide(byte_at(part, 240));
+    numbers_at(part, 0, &mut totals);
     Recent {
-        totals: totals,
-        count: count,
-        begun: word_at(part, 241),
-        total: long_at(part, 243),
+        totals,
+        count: usize::from(number_at::<u8>(part, 240)),
+        begun: number_at(part, 241),
+        total: number_at(part, 243),
     }
 }

@@ -7,16 +7,10 @@ ghost use Rattle.std.specs.Prelude.{◌+◌, ◌≤◌, ◌<◌, ◌^◌, ◌≡
 ghost use Rattle.shelf.specs.Shelf.{report_of};
 ghost use Rattle.monday.specs.Numbers.{appended};
 
+use refusals::Refusal;
 use shelf::Row;
 use shelf_row::{Figures, Lowest};
 use std::io;
-
-// A number with a digit more.
-#[derive(Clone, Copy)]
-enum Number {
-    Is(u16),
-    Beyond,
-}
 
 // What the next byte of a line stands after: nothing, a gap, a digit, a carriage return, a `#`, or what can't stand there.
 #[derive(Clone, Copy)]
@@ -54,21 +48,16 @@ struct Table {
     fault: usize,
 }
 
-fn wide(x: u16) -> u32
-    ensures { (result ≡ x) × (result < 65536) }
-{
-    x as u32
-}
-
-fn with_digit(x: u16, digit: u8) -> Number
+// A number with a digit more, unless it goes beyond a word.
+fn with_digit(x: u16, digit: u8) -> Option<u16>
     requires { digit < 10 }
     ensures { result ≡ appended x digit }
 {
-    let next = 10 * wide(x) + (digit as u32);
+    let next = 10 * u32::from(x) + u32::from(digit);
     if next < 65536 {
-        return Number::Is(next as u16);
+        return Some(next as u16);
     }
-    Number::Beyond
+    None
 }
 
 fn beginning() -> Line {
@@ -86,31 +75,20 @@ fn beginning() -> Line {
 }
 
 fn line_after(line: Line, after: After) -> Line {
-    let row = line.row;
-    Line {
-        row,
-        begun: line.begun,
-        after,
-    }
+    Line { after, ..line }
 }
 
 // A digit more in the number that is being read.
 fn longer(line: Line, digit: u8) -> Line
     requires { digit < 10 }
 {
-    let Number::Is(cycles) = with_digit(line.row.cycles, digit) else {
+    let Some(cycles) = with_digit(line.row.cycles, digit) else {
         return line_after(line, After::Fault);
     };
-    let row = Row {
-        remaining: line.row.remaining,
-        full: line.row.full,
-        design: line.row.design,
-        cycles,
-    };
     Line {
-        row,
-        begun: line.begun,
+        row: Row { cycles, ..line.row },
         after: After::Digit,
+        ..line
     }
 }
 
@@ -123,7 +101,7 @@ fn first_digit(line: Line, digit: u8) -> Line {
         remaining: line.row.full,
         full: line.row.design,
         design: line.row.cycles,
-        cycles: digit as u16,
+        cycles: u16::from(digit),
     };
     Line {
         row,
@@ -250,7 +228,7 @@ fn read(bytes: &[u8]) -> Table
 }
 
 // The one place that makes a slice of rows.
-fn figures_of(rows: [Row; 65], count: usize) -> Figures
+fn figures_of(rows: [Row; 65], count: usize) -> Result<Figures, Refusal>
     requires { count ≤ 65 }
     ensures { result ≡ report_of (take count rows) }
 {
@@ -262,28 +240,34 @@ fn print_line(rt: &impl Print, of: &str, n: u32, rest: &str) -> io::Result<()> {
     println!(rt; "{of} {n}{rest}")
 }
 
-fn print_lowest(rt: &impl Print, lowest: Lowest) -> io::Result<()> {
+fn print_lowest(rt: &impl Print, lowest: Option<Lowest>) -> io::Result<()> {
     match lowest {
-        Lowest::At(remaining, full, place) => {
-            println!(rt; "lowest {remaining} of {full} mAh, place {place}")
+        Some(row) => {
+            println!(rt;
+                "lowest {} of {} mAh, place {}",
+                row.remaining, row.full, row.place
+            )
         }
-        Lowest::None => println!(rt; "no lowest row"),
+        None => println!(rt; "no lowest row"),
     }
 }
 
 fn print_figures(rt: &impl Print, t: Figures) -> io::Result<()> {
-    if t.answer == 16 {
-        return println!(rt; "16: more than 64 rows");
-    }
-    if t.answer == 17 {
-        return println!(rt; "17: a row whose full or design is 0 or whose remaining exceeds full");
-    }
     print_line(rt, "packs", t.packs, "")?;
     print_line(rt, "total remaining", t.remaining, " mAh")?;
     print_line(rt, "total full", t.full, " mAh")?;
-    let lowest = t.lowest;
-    print_lowest(rt, lowest)?;
+    print_lowest(rt, t.lowest)?;
     print_line(rt, "below one fifth", t.low, "")
+}
+
+fn print_report(rt: &impl Print, report: Result<Figures, Refusal>) -> io::Result<()> {
+    match report {
+        Ok(t) => print_figures(rt, t),
+        Err(Refusal::TooManyRows) => println!(rt; "16: more than 64 rows"),
+        Err(_) => {
+            println!(rt; "17: a row whose full or design is 0 or whose remaining exceeds full")
+        }
+    }
 }
 
 // A line that isn't right is told before any answer, 16 too, and nothing else is printed.
@@ -293,7 +277,7 @@ fn tell(rt: &impl Print, bytes: &[u8]) -> io::Result<()> {
         return println!(rt; "line {}: not four numbers of 0 to 65535", t.fault);
     }
     let rows = t.rows;
-    print_figures(rt, figures_of(rows, t.count))
+    print_report(rt, figures_of(rows, t.count))
 }
 
 // A table takes less than 16,384 bytes, of which 64 of the longest rows take 1,536.

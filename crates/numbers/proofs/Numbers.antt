@@ -1,16 +1,25 @@
 -- One law over widths and numbers, in both directions: what is stored is read back, and what is read is stored again.
 -- Assumes nothing.
 use mathlib.Core.Path.{◌≡◌, refl, sym, ap, ◌∙◌}
+use mathlib.Core.Bool.{Bool, true, false}
 use mathlib.Core.List.{List, [], ◌∷◌, ◌++◌, append_assoc, append-nil}
 use Prim.Native.Nat.{ℕ, zero, suc, ◌+◌, ◌-◌, ◌*◌, ◌/◌, ◌%◌, ◌^◌, ◌≤◌, ◌<◌}
 use native.Mathlib.Nat.{add-zero, pow-suc, div-lt_iff_lt-mul}
 use native.Mathlib.Omega.{arith}
 use lib.ListN.{length, get_or, take, drop, replicate, drop_of_length-le}
 use lib.Seq.{drop-cons, take-nil, drop-nil}
+use Rattle.std.specs.Int.{from_bool}
 use Rattle.recent.specs.Fits.{Below}
 use Rattle.rooms.proofs.Rooms.{byte_at}
 use Rattle.rooms.specs.Rooms.{Bytes, between}
-use Rattle.numbers.specs.Numbers.{number_bytes, numbers_bytes, number_at, numbers_at, bytes_taken, Within}
+use Rattle.numbers.specs.Numbers.{number_bytes, numbers_bytes, number_at, numbers_at, bytes_taken, Within, flag_of}
+
+-- ---- flags
+
+-- the library's number of a flag is the flag's
+pub flag_is : (b : Bool) → from_bool b ≡ flag_of b
+flag_is true = refl
+flag_is false = refl
 
 -- ---- stored, then read
 

@@ -1,14 +1,15 @@
 -- A turn of each loop that writes or reads, and what its end leaves.
 -- Assumes nothing.
 use mathlib.Core.Path.{◌≡◌, refl, ap, ◌∙◌}
-use mathlib.Core.List.{List, [], ◌∷◌}
+use mathlib.Core.List.{List, [], ◌∷◌, ◌++◌, map, append-nil}
 use Prim.Native.Nat.{ℕ, zero, suc, ◌+◌, ◌-◌, ◌*◌, ◌/◌, ◌%◌, ◌^◌, ◌≤◌, ◌<◌}
 use native.Mathlib.Nat.{pow-le-pow_right, pow-suc, add-zero, sub-zero, mul-zero, mul-suc}
 use native.Mathlib.Numerals.{add-one}
 use native.Mathlib.Omega.{arith}
-use lib.ListN.{length, get_or, drop, set, replicate, length-replicate, length-set, drop_of_length-le}
-use lib.Seq.{sets, drop-cons, length-sets}
-use Rattle.rooms.proofs.Rooms.{then, whole}
+use lib.ListN.{length, get_or, take, drop, set, replicate, length-replicate, length-set, drop_of_length-le}
+use lib.Seq.{sets, sets-eq, take-suc, drop-cons, length-sets}
+use Rattle.std.proofs.lemmas.List.{length-map}
+use Rattle.rooms.proofs.Rooms.{then}
 use Rattle.recent.specs.Fits.{Below}
 use Rattle.numbers.specs.Numbers.{number_bytes, numbers_bytes, number_at, numbers_at}
 
@@ -20,10 +21,13 @@ numbers_length : (widths l : List ℕ) (at : ℕ) → length (numbers_at widths 
 numbers_length [] l at = refl
 numbers_length (n ∷ widths) l at = ap suc (numbers_length widths l (at + n))
 
--- a bound on each element is one on all
-pub all_below : (bound : ℕ) (l : List ℕ) → ((i : ℕ) → get_or l i 0 < bound) → Below bound l
-all_below bound [] h = tt
-all_below bound (x ∷ l) h = (h 0, all_below bound l (λ i. h (suc i)))
+-- a number more below a bound
+below_append : (bound : ℕ) (xs : List ℕ) (x : ℕ) → Below bound xs → x < bound → Below bound (xs ++ (x ∷ []))
+below_append bound [] x b h = (h, tt)
+below_append bound (y ∷ xs) x b h = (b.0, below_append bound xs x b.1 h)
+
+pub below_more : (bound : ℕ) (xs : List ℕ) (i : ℕ) → i < length xs → get_or xs i 0 < bound → Below bound (take i xs) → Below bound (take (i + 1) xs)
+below_more bound xs i l h b = rw (add-one, take-suc xs i 0 l) (below_append bound (take i xs) (get_or xs i 0) b h)
 
 -- one byte of a number more is written
 pub byte_turn : (part : List ℕ) (at n i left : ℕ) → i < n
@@ -57,12 +61,12 @@ Writing width part₀ at values part i =
 pub writing_starts : (width : ℕ) (part : List ℕ) (at : ℕ) (values : List ℕ) → Writing width part at values part 0
 writing_starts width part at values = (omega arith, rw (mul-zero, add-zero), refl)
 
-pub writing_goes_on : (width : ℕ) (part₀ : List ℕ) (at : ℕ) (values part : List ℕ) (i : ℕ) {place : ℕ} {next : List ℕ} → i < length values
-    → place ≡ at + width * i → next ≡ sets part place (number_bytes width (get_or values i 0)) → Writing width part₀ at values part i → Writing width part₀ at values next (i + 1)
-writing_goes_on width part₀ at values part i h p e w = (
+pub writing_goes_on : (width : ℕ) (part₀ : List ℕ) (at : ℕ) (values part : List ℕ) (i : ℕ) {value : ℕ} {next : List ℕ} → i < length values
+    → get_or values i 0 ≡ value → next ≡ sets part (at + width * i) (number_bytes width value) → Writing width part₀ at values part i → Writing width part₀ at values next (i + 1)
+writing_goes_on width part₀ at values part i h e p w = (
   omega arith,
-  rw (e, p) (put_turn width part values i (at + width * i) (at + width * (i + 1)) h (next_place width at i) ∙ w.1),
-  rw (e, p) (length-sets part (at + width * i) (number_bytes width (get_or values i 0)) ∙ w.2),
+  rw (p, ← e) (put_turn width part values i (at + width * i) (at + width * (i + 1)) h (next_place width at i) ∙ w.1),
+  rw (p, ← e) (length-sets part (at + width * i) (number_bytes width (get_or values i 0)) ∙ w.2),
 )
 
 pub writing_ends : (width : ℕ) (part₀ : List ℕ) (at : ℕ) (values part : List ℕ) (i : ℕ) → length values ≤ i
@@ -92,33 +96,32 @@ read_turn part at n i {found} h less few byte same small =
 
 -- ---- a list of numbers is read, all of one width
 
--- one number of a list more is read
-get_turn : (width n : ℕ) (found part : List ℕ) (i p q : ℕ) → i < n → q ≡ p + width
-    → sets (set found i (number_at width part p)) (i + 1) (numbers_at (replicate (n - (i + 1)) width) part q)
-    ≡ sets found i (numbers_at (replicate (n - i) width) part p)
-get_turn width n found part i p q h e = let m : n - i ≡ suc (n - (i + 1)) = omega arith in rw (m, add-one, e)
+module _ {A : Type 0} (of : ℕ → A) (width : ℕ) (part : List ℕ) (at : ℕ) where
+  -- so many numbers from a place on
+  abbrev pub found_at : ℕ → ℕ → List A
+  found_at n p = map of (numbers_at (replicate n width) part p)
 
--- with the first i read, the rest makes all
-abbrev pub Reading : ℕ → List ℕ → ℕ → List ℕ → List ℕ → ℕ → Type 0
-Reading width part at found₀ found i =
-    (i ≤ length found₀)
-    × (sets found i (numbers_at (replicate (length found₀ - i) width) part (at + width * i)) ≡ sets found₀ 0 (numbers_at (replicate (length found₀) width) part at))
-    × (length found ≡ length found₀)
+  found_length : (n p : ℕ) → length (found_at n p) ≡ n
+  found_length n p = length-map (numbers_at (replicate n width) part p) of ∙ numbers_length (replicate n width) part p ∙ length-replicate n width
 
-pub reading_starts : (width : ℕ) (part : List ℕ) (at : ℕ) (found : List ℕ) → Reading width part at found found 0
-reading_starts width part at found = (omega arith, rw (mul-zero, add-zero, sub-zero), refl)
+  -- with the first i read, the rest makes all
+  pub record Reading (found₀ found : List A) (i : ℕ) : Type 0 where
+    pub all : sets found i (found_at (length found₀ - i) (at + width * i)) ≡ sets found₀ 0 (found_at (length found₀) at)
+    pub long : length found ≡ length found₀
 
-pub reading_goes_on : (width : ℕ) (part : List ℕ) (at : ℕ) (found₀ found : List ℕ) (i : ℕ) {place value : ℕ} → i < length found₀
-    → place ≡ at + width * i → value ≡ number_at width part place → Reading width part at found₀ found i → Reading width part at found₀ (set found i value) (i + 1)
-reading_goes_on width part at found₀ found i h p e r = (
-  omega arith,
-  rw (e, p) (get_turn width (length found₀) found part i (at + width * i) (at + width * (i + 1)) h (next_place width at i) ∙ r.1),
-  simp length-set r.2,
-)
+  pub reading_starts : (found : List A) → Reading found found 0
+  reading_starts found = record { all = rw (mul-zero, add-zero, sub-zero); long = refl }
 
-pub reading_ends : (width : ℕ) (part : List ℕ) (at : ℕ) (found₀ found : List ℕ) (i : ℕ) → length found₀ ≤ i
-    → Reading width part at found₀ found i → found ≡ numbers_at (replicate (length found₀) width) part at
-reading_ends width part at found₀ found i h r =
-    let none : length found₀ - i ≡ 0 = omega arith in
-    let all = numbers_at (replicate (length found₀) width) part at in
-    (rw none at r.1) ∙ whole found₀ all (numbers_length (replicate (length found₀) width) part at ∙ length-replicate (length found₀) width)
+  pub reading_goes_on : (found₀ found : List A) (i : ℕ) {value : A} → i < length found₀ → value ≡ of (number_at width part (at + width * i))
+      → Reading found₀ found i → Reading found₀ (set found i value) (i + 1)
+  reading_goes_on found₀ found i h e r =
+      let m : length found₀ - i ≡ suc (length found₀ - suc i) = omega arith in
+      record { all = rw (e, next_place width at i, add-one i) (rw m at r.all); long = length-set found i _ ∙ r.long }
+
+  pub reading_ends : (found₀ found : List A) (i : ℕ) → length found₀ ≤ i → Reading found₀ found i → found ≡ map of (numbers_at (replicate (length found₀) width) part at)
+  reading_ends found₀ found i h r =
+      let none : length found₀ - i ≡ 0 = omega arith in
+      let all = found_at (length found₀) at in
+      let n : length all ≡ length found₀ = found_length (length found₀) at in
+      let past : length found₀ ≤ 0 + length all = omega arith in
+      (rw none at r.all) ∙ sets-eq all found₀ 0 (omega arith) ∙ ap (λ (l : List A). all ++ l) (drop_of_length-le found₀ past) ∙ append-nil all

@@ -8,10 +8,10 @@ use native.Mathlib.Omega.{arith}
 use lib.Dec.{ltb}
 use lib.ListN.{length}
 use borrow.Author.Tests.{ltb-true, ltb-false, le-leb, lt-leb}
+use Rattle.std.specs.Prelude.{Option, Some}
 use Rattle.shelf.specs.declared.Row.{Row}
 use Rattle.shelf_row.specs.declared.Lowest.{Lowest}
-use Rattle.shelf_row.specs.declared.Lowest.TheVariants.{At}
-use Rattle.shelf.specs.Shelf.{any_bad, at_most, at_most_all, lowest_from, lowest_of}
+use Rattle.shelf.specs.Shelf.{any_bad, at_most, at_most_all, at_place, lowest_from, lowest_of}
 use Rattle.shelf.specs.Ratios.{All, AtMost, Under}
 use Rattle.shelf_row.specs.Rows.{is_bad}
 use Rattle.shelf_row.specs.Step.{lowest_with}
@@ -66,17 +66,17 @@ not_most s r (x ∷ xs) ys h = rw (not_most s r xs ys h) (and-false (at_most s x
 -- ---- the first that is at most every row is the one before which every row is strictly above it
 found : (all before : List Row) (r : Row) (after front : List Row) (place : ℕ)
     → All (Under r) before → All (AtMost r) all → all ≡ front ++ (r ∷ after)
-    → lowest_from all place (before ++ (r ∷ after)) ≡ At r.remaining r.full (place + length before)
+    → lowest_from all place (before ++ (r ∷ after)) ≡ Some (at_place r (place + length before))
 unfolding lowest_from
-found all [] r after front place u m e = rw (most_all r all m) (ap (At r.remaining r.full) (omega arith))
+found all [] r after front place u m e = rw (most_all r all m) (ap (λ (p : ℕ). Some (at_place r p)) (omega arith))
 found all (s ∷ before) r after front place u m e =
     rw (ap (at_most_all s) e ∙ not_most s r front after u.0)
-    (found all before r after front (suc place) u.1 m e ∙ ap (At r.remaining r.full) (omega arith))
+    (found all before r after front (suc place) u.1 m e ∙ ap (λ (p : ℕ). Some (at_place r p)) (omega arith))
 
-pub lowest_is : (rows : List Row) (s : Split rows) → lowest_of rows ≡ At s.row.remaining s.row.full (length s.before)
+pub lowest_is : (rows : List Row) (s : Split rows) → lowest_of rows ≡ Some (at_place s.row (length s.before))
 lowest_is rows s =
     ap (lowest_from rows 0) s.is ∙ found rows s.before s.row s.after s.before 0 s.first s.least s.is
-    ∙ ap (At s.row.remaining s.row.full) (omega arith)
+    ∙ ap (λ (p : ℕ). Some (at_place s.row p)) (omega arith)
 
 -- ---- a table with a row, each full above 0, has one
 most_through : (s r : Row) (xs : List Row) → Full r → AtMost s r → All (AtMost r) xs → All (AtMost s) xs
@@ -144,14 +144,14 @@ same_row xs x w m =
     }
 
 one_more : (xs : List Row) (x : Row) → All Full xs → (w : Split xs) (b : Bool) → ltb (x.remaining * w.row.full) (w.row.remaining * x.full) ≡ b
-    → lowest_of (xs ++ (x ∷ [])) ≡ lowest_with (At w.row.remaining w.row.full (length w.before)) x.remaining x.full (length xs)
+    → lowest_of (xs ++ (x ∷ [])) ≡ Some (lowest_with (Some (at_place w.row (length w.before))) (at_place x (length xs)))
 unfolding same_row last_row
 one_more xs x ps w true t = rw t (lowest_is (xs ++ (x ∷ [])) (last_row xs x ps w (ltb-true (x.remaining * w.row.full) (w.row.remaining * x.full) t)))
 one_more xs x ps w false t = rw t (lowest_is (xs ++ (x ∷ [])) (same_row xs x w (ltb-false (x.remaining * w.row.full) (w.row.remaining * x.full) t)))
 
-pub lowest_more : (xs : List Row) (x : Row) → All Full xs → Full x → lowest_of (xs ++ (x ∷ [])) ≡ lowest_with (lowest_of xs) x.remaining x.full (length xs)
+pub lowest_more : (xs : List Row) (x : Row) → All Full xs → Full x → lowest_of (xs ++ (x ∷ [])) ≡ Some (lowest_with (lowest_of xs) (at_place x (length xs)))
 unfolding lowest_from split
 lowest_more [] x p q = lowest_is (x ∷ []) (split x [] (q, tt))
 lowest_more (y ∷ ys) x p q =
     let w : Split (y ∷ ys) = split y ys p in
-    one_more (y ∷ ys) x p w _ refl ∙ ap (λ (l : Lowest). lowest_with l x.remaining x.full (length (y ∷ ys))) (sym (lowest_is (y ∷ ys) w))
+    one_more (y ∷ ys) x p w _ refl ∙ ap (λ (l : Option Lowest). Some (lowest_with l (at_place x (length (y ∷ ys))))) (sym (lowest_is (y ∷ ys) w))

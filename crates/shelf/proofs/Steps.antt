@@ -1,55 +1,62 @@
--- One row more: the step takes the report of the first rows to the report of the rows with the next.
+-- One row more: the step takes the figures of the first rows to those of the rows with the next.
 -- Assumes nothing.
-use mathlib.Core.Path.{◌≡◌, refl, sym, ap, ◌∙◌, subst}
-use mathlib.Core.Bool.{Bool, true, false, cond, ◌||◌, or-false}
-use mathlib.Core.List.{List, [], ◌∷◌, ◌++◌}
-use Prim.Native.Nat.{ℕ, min, ◌+◌, ◌*◌, ◌≤◌, ◌<◌}
-use native.Mathlib.Nat.{min-eq_left}
-use native.Mathlib.Numerals.{add-one}
-use native.Mathlib.Omega.{arith}
-use lib.Dec.{ltb, eqb}
-use lib.ListN.{length, length-append, take, get_or}
-use lib.Seq.{take-suc, take-length, length-take-le}
-use borrow.Author.Tests.{lt-ltb, le-ltb, ltb-true, ltb-false, eqb-true}
+use Rattle.std.proofs.Common.{◌≡◌, ℕ, ◌+◌, ◌*◌, ◌≤◌, ◌<◌, Bool, true, false, cond, List, [], ◌∷◌, ◌++◌, length, get_or, take, drop, Result, Ok, Err, refl, sym, ap, ◌∙◌, subst, add-one, arith}
+use mathlib.Core.Bool.{◌||◌, or-false}
+use lib.Dec.{ltb}
+use lib.Seq.{take-suc, length-take-le}
+use Rattle.std.proofs.lemmas.List.{take_all, take-append-drop}
+use borrow.Author.Tests.{lt-ltb, le-ltb, ltb-true, ltb-false}
+use Rattle.refusals.specs.declared.Refusal.{Refusal}
+use Rattle.refusals.specs.declared.Refusal.TheVariants.{TooManyRows, BadRow}
 use Rattle.shelf.specs.declared.Row.{Row}
-use Rattle.shelf.specs.Shelf.{any_bad, total, total_remaining, total_full, lowest_from, no_row, figures, report_answer, report_of}
-use Rattle.shelf_row.specs.Rows.{is_bad, is_low, count_answer, zeros}
-use Rattle.shelf_row.specs.Step.{figures_with, Fits}
+use Rattle.shelf.specs.Shelf.{any_bad, total, total_remaining, total_full, lowest_from, no_row, figures, report_of}
+use Rattle.shelf_row.specs.Rows.{is_bad, is_low, begun, no_rows}
+use Rattle.shelf_row.specs.Step.{figures_with, counted_in, Fits}
 use Rattle.shelf_row.specs.declared.Figures.{Figures}
 use Rattle.shelf.proofs.Lists.{bad_append, length_one, total_one, low_most, good_full}
 use Rattle.shelf.proofs.Low.{all_full, lowest_more}
 
--- a report's answer, with figures and without
-pub report-answer : (rows : List Row) → (report_of rows).answer ≡ report_answer rows
-unfolding report_of
-report-answer rows = either (report_answer rows) (eqb (report_answer rows) 0) refl
-  where
-    either : (n : ℕ) (b : Bool) → eqb n 0 ≡ b → (cond b (figures rows) (zeros n)).answer ≡ n
-    either n true e = sym (eqb-true n 0 e)
-    either n false e = refl
-
--- at most 64 rows
-pub report_small : (rows : List Row) → length rows ≤ 64 → report_of rows ≡ cond (any_bad rows) (zeros 17) (figures rows)
-unfolding report_of
-report_small rows h = rw (le-ltb 64 (length rows) h) (either (any_bad rows))
-  where
-    either : (b : Bool) → cond (eqb (cond b 17 0) 0) (figures rows) (zeros (cond b 17 0)) ≡ cond b (zeros 17) (figures rows)
-    either true = refl
-    either false = refl
+-- ---- the three cases of a report
 
 -- more than 64 rows
-pub report_large : (rows : List Row) → 64 < length rows → report_of rows ≡ zeros 16
+pub report_large : (rows : List Row) → 64 < length rows → report_of rows ≡ Err TooManyRows
 unfolding report_of
 report_large rows h = rw (lt-ltb 64 (length rows) h)
 
--- no rows
-pub report_none : report_of [] ≡ zeros 0
-unfolding report_of any_bad total lowest_from
-report_none = refl
+-- a bad row
+pub report_bad : (rows : List Row) → length rows ≤ 64 → any_bad rows ≡ true → report_of rows ≡ Err BadRow
+unfolding report_of
+report_bad rows h b = rw (le-ltb 64 (length rows) h, b)
+
+-- neither
+pub report_good : (rows : List Row) → length rows ≤ 64 → any_bad rows ≡ false → report_of rows ≡ Ok (figures rows)
+unfolding report_of
+report_good rows h b = rw (le-ltb 64 (length rows) h, b)
+
+-- ---- a row more
+
+module _ (t : Figures) (r f d : ℕ) where
+  -- a step that gives figures was given a row that isn't bad
+  good_step : {u : Figures} → figures_with t r f d ≡ Ok u → is_bad r f d ≡ false
+  unfolding figures_with
+  good_step {u} e = by (is_bad r f d) refl
+    where
+      by : (b : Bool) → is_bad r f d ≡ b → is_bad r f d ≡ false
+      by true h = let z : ◌≡◌ {A = Result Figures Refusal} (Err BadRow) (Ok u) = rw h at e in cc
+      by false h = h
+
+  -- and one that gives none, a bad one
+  bad_step : {e : Refusal} → figures_with t r f d ≡ Err e → (is_bad r f d ≡ true) × (e ≡ BadRow)
+  unfolding figures_with
+  bad_step {e} h = by (is_bad r f d) refl
+    where
+      by : (b : Bool) → is_bad r f d ≡ b → (is_bad r f d ≡ true) × (e ≡ BadRow)
+      by true k = (k, let z : ◌≡◌ {A = Result Figures Refusal} (Err BadRow) (Err e) = rw k at h in cc)
+      by false k = let z : ◌≡◌ {A = Result Figures Refusal} (Ok (counted_in t r f)) (Err e) = rw k at h in cc
 
 -- the figures with a good row more
 figures_more : (xs : List Row) (x : Row) → any_bad xs ≡ false → is_bad x.remaining x.full x.design ≡ false
-    → figures_with (figures xs) x.remaining x.full x.design ≡ figures (xs ++ (x ∷ []))
+    → figures_with (figures xs) x.remaining x.full x.design ≡ Ok (figures (xs ++ (x ∷ [])))
 unfolding figures_with
 figures_more xs x g h =
     rw h
@@ -61,25 +68,6 @@ figures_more xs x g h =
       lowest_more xs x (all_full xs g) (good_full x.remaining x.full x.design h),
     ))
 
-module _ (xs : List Row) (x : Row) where
-  abbrev bad : Bool
-  bad = is_bad x.remaining x.full x.design
-
-  more : (b c : Bool) → any_bad xs ≡ b → bad ≡ c
-      → figures_with (cond b (zeros 17) (figures xs)) x.remaining x.full x.design ≡ cond (b || c) (zeros 17) (figures (xs ++ (x ∷ [])))
-  unfolding figures_with
-  more true c g h = refl
-  more false true g h = rw h
-  more false false g h = figures_more xs x g h
-
-  report-more : length xs < 64 → figures_with (report_of xs) x.remaining x.full x.design ≡ report_of (xs ++ (x ∷ []))
-  unfolding any_bad
-  report-more h =
-      rw (report_small xs (omega arith), report_small (xs ++ (x ∷ [])) (simp length-append (omega arith)), bad_append xs (x ∷ []), or-false bad)
-      (more (any_bad xs) bad refl refl)
-
--- ---- what the step asks
-
 -- no total passes 65,535 for each row
 abbrev pub Small : List Row → Type 0
 Small rows = (total_remaining rows ≤ 65535 * length rows) × (total_full rows ≤ 65535 * length rows)
@@ -90,34 +78,38 @@ small_more xs x a b s = (
   omega (arith, length_one xs x, total_one (λ (r : Row). r.full) xs x),
 )
 
-fits_zeros : (n : ℕ) → Fits (zeros n)
-fits_zeros n = record { packs = omega arith; remaining = omega arith; full = omega arith; low = omega arith }
-
-fits_report : (xs : List Row) → length xs < 64 → Small xs → Fits (report_of xs)
-fits_report xs h s = rw (report_small xs (omega arith)) (either (any_bad xs))
-  where
-    either : (b : Bool) → Fits (cond b (zeros 17) (figures xs))
-    either true = fits_zeros 17
-    either false = record { packs = h; remaining = omega arith; full = omega arith; low = omega (arith, low_most xs) }
-
 -- ---- a loop over the rows of a table
 
--- what it holds after some of them
-abbrev pub so_far : List Row → ℕ → Figures
-so_far rows i = cond (ltb 64 (length rows)) (zeros 16) (report_of (take i rows))
+-- the first i of at most 64 rows are read: none is bad, and the figures are theirs
+pub record Read (rows : List Row) (i : ℕ) (t : Figures) : Type 0 where
+  pub few : length rows ≤ 64
+  pub fine : any_bad (take i rows) ≡ false
+  pub is : t ≡ figures (take i rows)
+  pub small : Small (take i rows)
 
-pub so_none : (rows : List Row) → zeros (count_answer (length rows)) ≡ so_far rows 0
-so_none rows = either (ltb 64 (length rows))
+-- before any row
+pub read_none : (rows : List Row) {t : Figures} → begun (length rows) ≡ Ok t → Read rows 0 t
+unfolding any_bad total lowest_from
+read_none rows {t} e = by (ltb 64 (length rows)) refl
   where
-    either : (b : Bool) → zeros (cond b 16 0) ≡ cond b (zeros 16) (report_of [])
-    either true = refl
-    either false = sym report_none
+    by : (b : Bool) → ltb 64 (length rows) ≡ b → Read rows 0 t
+    by true h = let z : ◌≡◌ {A = Result Figures Refusal} (Err TooManyRows) (Ok t) = rw h at e in absurd (cc)
+    by false h =
+        let z : ◌≡◌ {A = Result Figures Refusal} (Ok no_rows) (Ok t) = rw h at e in
+        record { few = ltb-false 64 (length rows) h; fine = refl; is = cc; small = (omega arith, omega arith) }
 
-pub small_none : Small []
-unfolding total
-small_none = (omega arith, omega arith)
+pub read_many : (rows : List Row) {e : Refusal} → begun (length rows) ≡ Err e → report_of rows ≡ Err e
+read_many rows {e} k = by (ltb 64 (length rows)) refl
+  where
+    by : (b : Bool) → ltb 64 (length rows) ≡ b → report_of rows ≡ Err e
+    by true h = report_large rows (ltb-true 64 (length rows) h) ∙ rw h at k
+    by false h = let z : ◌≡◌ {A = Result Figures Refusal} (Ok no_rows) (Err e) = rw h at k in absurd (cc)
 
-module _ (rows : List Row) (i : ℕ) (l : i < length rows) where
+-- some of the rows are bad
+bad_taken : (rows : List Row) (n : ℕ) → any_bad (take n rows) ≡ true → any_bad rows ≡ true
+bad_taken rows n h = ap any_bad (sym (take-append-drop n rows)) ∙ bad_append (take n rows) (drop n rows) ∙ ap (λ (b : Bool). b || any_bad (drop n rows)) h
+
+module _ (rows : List Row) (i : ℕ) {t : Figures} (so : Read rows i t) (l : i < length rows) where
   abbrev x : Row
   x = get_or rows i no_row
 
@@ -127,31 +119,36 @@ module _ (rows : List Row) (i : ℕ) (l : i < length rows) where
   long : length (take i rows) ≡ i
   long = length-take-le i rows (omega arith)
 
-  pub so-more : i < 64 → figures_with (so_far rows i) x.remaining x.full x.design ≡ so_far rows (i + 1)
-  unfolding figures_with
-  so-more h = either (ltb 64 (length rows))
-    where
-      either : (b : Bool) → figures_with (cond b (zeros 16) (report_of (take i rows))) x.remaining x.full x.design ≡ cond b (zeros 16) (report_of (take (i + 1) rows))
-      either true = refl
-      either false = report-more (take i rows) x (omega (arith, long)) ∙ ap report_of (sym taken)
+  one_bad : any_bad (take (i + 1) rows) ≡ is_bad x.remaining x.full x.design
+  unfolding any_bad
+  one_bad = ap any_bad taken ∙ bad_append (take i rows) (x ∷ []) ∙ rw so.fine (or-false _)
 
-  pub so-fits : i < 64 → Small (take i rows) → Fits (so_far rows i)
-  so-fits h s = either (ltb 64 (length rows))
-    where
-      either : (b : Bool) → Fits (cond b (zeros 16) (report_of (take i rows)))
-      either true = fits_zeros 16
-      either false = fits_report (take i rows) (omega (arith, long)) s
+  pub read-fits : Fits t
+  read-fits =
+      let few = so.few in
+      let small = so.small in
+      let f : Fits (figures (take i rows)) = record { packs = omega (arith, long); remaining = omega (arith, long); full = omega (arith, long); low = omega (arith, long, low_most (take i rows)) } in
+      rw so.is f
 
-  pub so-small : x.remaining < 65536 → x.full < 65536 → Small (take i rows) → Small (take (i + 1) rows)
-  so-small a b s = subst Small (sym taken) (small_more (take i rows) x a b s)
+  pub read-more : {u : Figures} → x.remaining < 65536 → x.full < 65536 → figures_with t x.remaining x.full x.design ≡ Ok u → Read rows (i + 1) u
+  read-more {u} a b e =
+      let good = good_step t x.remaining x.full x.design e in
+      let more = figures_more (take i rows) x so.fine good in
+      let z : Ok u ≡ Ok (figures (take i rows ++ (x ∷ []))) = sym e ∙ ap (λ (f : Figures). figures_with f x.remaining x.full x.design) so.is ∙ more in
+      let is : u ≡ figures (take i rows ++ (x ∷ [])) = cc in
+      record {
+        few = so.few;
+        fine = one_bad ∙ good;
+        is = is ∙ ap figures (sym taken);
+        small = subst Small (sym taken) (small_more (take i rows) x a b so.small);
+      }
 
-pub so_last : (rows : List Row) (i : ℕ) → i ≤ min (length rows) 64 → min (length rows) 64 ≤ i → so_far rows i ≡ report_of rows
-so_last rows i a b = either (ltb 64 (length rows)) refl
-  where
-    either : (c : Bool) → ltb 64 (length rows) ≡ c → cond c (zeros 16) (report_of (take i rows)) ≡ report_of rows
-    either true e = sym (report_large rows (ltb-true 64 (length rows) e))
-    either false e =
-        let few : length rows ≤ 64 = ltb-false 64 (length rows) e in
-        let m : min (length rows) 64 ≡ length rows = min-eq_left few in
-        let k : i ≡ length rows = omega arith in
-        ap (λ (k : ℕ). report_of (take k rows)) k ∙ ap report_of (take-length rows)
+  pub read-bad : {e : Refusal} → figures_with t x.remaining x.full x.design ≡ Err e → report_of rows ≡ Err e
+  read-bad {e} h =
+      let b = bad_step t x.remaining x.full x.design h in
+      report_bad rows so.few (bad_taken rows (i + 1) (one_bad ∙ b.0)) ∙ ap Err (sym b.1)
+
+pub read_all : (rows : List Row) (i : ℕ) {t : Figures} → Read rows i t → length rows ≤ i → report_of rows ≡ Ok t
+read_all rows i so h =
+    let all : take i rows ≡ rows = take_all i rows h in
+    report_good rows so.few (ap any_bad (sym all) ∙ so.fine) ∙ ap Ok (sym (so.is ∙ ap figures all))

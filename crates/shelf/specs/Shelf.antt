@@ -1,11 +1,12 @@
 -- Request R-1: the report over a table of packs, each a row with its remaining, full and design mAh and cycle count (RULES 13.1).
 -- Assumes nothing.
-use Rattle.std.specs.Prelude.{ℕ, suc, ◌+◌, ◌*◌, Bool, true, false, cond, ◌&&◌, ◌||◌, List, [], ◌∷◌, ltb, leb, eqb, length}
+use Rattle.std.specs.Prelude.{ℕ, suc, ◌+◌, ◌*◌, Bool, true, false, cond, ◌&&◌, ◌||◌, if◌then◌else◌, List, [], ◌∷◌, leb, length, Option, Some, None, Result, Ok, Err}
+use Rattle.refusals.specs.declared.Refusal.{Refusal}
+use Rattle.refusals.specs.declared.Refusal.TheVariants.{TooManyRows, BadRow}
 use Rattle.shelf.specs.declared.Row.{Row}
-use Rattle.shelf_row.specs.Rows.{is_bad, is_low, zeros}
+use Rattle.shelf_row.specs.Rows.{is_bad, is_low, is_many}
 use Rattle.shelf_row.specs.declared.Figures.{Figures}
 use Rattle.shelf_row.specs.declared.Lowest.{Lowest}
-use Rattle.shelf_row.specs.declared.Lowest.TheVariants.{At, None}
 
 -- ---- the figures
 
@@ -35,20 +36,23 @@ unfoldable pub at_most_all : Row → List Row → Bool
 at_most_all r [] = true
 at_most_all r (s ∷ rows) = at_most r s && at_most_all r rows
 
--- of the rows from a place on, the first whose ratio is at most every row's of the table: its two numbers and its place
-unfoldable pub lowest_from : List Row → ℕ → List Row → Lowest
+-- a row's two numbers and its place
+abbrev pub at_place : Row → ℕ → Lowest
+at_place r place = record { remaining = r.remaining; full = r.full; place = place }
+
+-- of the rows from a place on, the first whose ratio is at most every row's of the table
+unfoldable pub lowest_from : List Row → ℕ → List Row → Option Lowest
 lowest_from table place [] = None
-lowest_from table place (r ∷ rows) = cond (at_most_all r table) (At r.remaining r.full place) (lowest_from table (suc place) rows)
+lowest_from table place (r ∷ rows) = if at_most_all r table then Some (at_place r place) else lowest_from table (suc place) rows
 
 -- the lowest remaining ÷ full, its place from 0, the first on a tie (RULES 13.3)
-abbrev pub lowest_of : List Row → Lowest
+abbrev pub lowest_of : List Row → Option Lowest
 lowest_of rows = lowest_from rows 0 rows
 
 -- Monday's figures (RULES 13.2)
 abbrev pub figures : List Row → Figures
 figures rows =
     record {
-      answer = 0;
       packs = length rows;
       remaining = total_remaining rows;
       full = total_full rows;
@@ -63,13 +67,9 @@ unfoldable pub any_bad : List Row → Bool
 any_bad [] = false
 any_bad (r ∷ rows) = is_bad r.remaining r.full r.design || any_bad rows
 
--- 16: more than 64 rows; 17: a bad row; 16 is looked at first (RULES 13.6)
-abbrev pub report_answer : List Row → ℕ
-report_answer rows = cond (ltb 64 (length rows)) 16 (cond (any_bad rows) 17 0)
-
--- either gives no figures (RULES 13.6)
-unfoldable pub report_of : List Row → Figures
-report_of rows = cond (eqb (report_answer rows) 0) (figures rows) (zeros (report_answer rows))
+-- 16: more than 64 rows is looked at first; then 17: a bad row; either gives no figures (RULES 13.6)
+unfoldable pub report_of : List Row → Result Figures Refusal
+report_of rows = if is_many (length rows) then Err TooManyRows else (if any_bad rows then Err BadRow else Ok (figures rows))
 
 -- what is read past the end of a table
 abbrev pub no_row : Row

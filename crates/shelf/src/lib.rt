@@ -4,6 +4,7 @@
 ghost use Rattle.std.specs.Prelude.{◌≡◌};
 ghost use Rattle.shelf.specs.Shelf.{report_of};
 
+use refusals::Refusal;
 use shelf_row::Figures;
 
 // A pack on the shelf: remaining, full and design mAh, and its cycle count.
@@ -15,16 +16,13 @@ pub struct Row {
     pub cycles: u16,
 }
 
-// Rows are only read. Answers 0; 16: more than 64 rows; 17: a bad row.
-pub fn report(rows: &[Row]) -> Figures
+// Rows are only read. Their number is judged before any of them; then the first bad one is told.
+pub fn report(rows: &[Row]) -> Result<Figures, Refusal>
     ensures { result ≡ report_of rows.now }
 {
-    let last = shelf_row::read(rows.len());
-    let mut t = shelf_row::begin(rows.len());
-    let mut i: usize = 0;
-    while i < last {
-        t = shelf_row::step(t, rows[i].remaining, rows[i].full, rows[i].design);
-        i += 1;
+    let mut t = shelf_row::begin(rows.len())?;
+    for row in rows {
+        t = shelf_row::step(t, row.remaining, row.full, row.design)?;
     }
-    t
+    Ok(t)
 }

@@ -1,4 +1,4 @@
--- 16, 17 and 0, each exactly where it is said, and no figures with a refusal.
+-- 16, 17 and figures, each exactly where it is said, and no other refusal.
 -- Assumes nothing.
 use mathlib.Core.Path.{◌≡◌, refl, sym, ap, ◌∙◌}
 use mathlib.Core.Bool.{Bool, true, false, ◌||◌, or-true}
@@ -9,13 +9,16 @@ use native.Mathlib.Omega.{arith}
 use lib.Dec.{eqb}
 use lib.ListN.{length}
 use borrow.Author.Tests.{ltb-true, lt-ltb, eqb-true, eq-eqb}
-use Rattle.shelf.specs.Shelf.{any_bad, figures, report_of}
+use Rattle.std.specs.Prelude.{Result, Err, IsOk, is_ok}
+use Rattle.refusals.specs.declared.Refusal.{Refusal}
+use Rattle.refusals.specs.declared.Refusal.TheVariants.{TooManyRows, BadRow}
+use Rattle.shelf.specs.Shelf.{any_bad, total, lowest_from, report_of}
 use Rattle.shelf.specs.declared.Row.{Row}
-use Rattle.shelf_row.specs.Rows.{is_bad, zeros}
+use Rattle.shelf_row.specs.Rows.{is_bad}
 use Rattle.shelf_row.specs.declared.Figures.{Figures}
-use Rattle.shelf.proofs.Steps.{report_large, report_none}
+use Rattle.shelf.proofs.Steps.{report_large, report_bad, report_good}
 use Rattle.shelf_laws.specs.Promises.{row, Bad, Sixteen, Seventeen, ServedExactly, NoFigures, EmptyTable}
-use Rattle.shelf_laws.proofs.Cases.{Case, large, bad, good, Good, case, served, answered, good_is, bad_is}
+use Rattle.shelf_laws.proofs.Cases.{Case, large, bad, good, case, not_refused, good_is}
 
 -- ---- a bad row
 
@@ -50,38 +53,41 @@ bad_there (r ∷ rows) (suc k) l b = rw (bad_there rows k (omega arith) b) (or-t
 -- ---- exactly
 
 pub sixteen : Sixteen
-sixteen rows = ((λ h. to (case rows) h), (λ l. ap (λ (f : Figures). f.answer) (report_large rows l)))
+sixteen rows = ((λ h. to (case rows) h), (λ l. report_large rows l))
   where
-    to : Case rows → (report_of rows).answer ≡ 16 → 64 < length rows
+    to : Case rows → report_of rows ≡ Err TooManyRows → 64 < length rows
     to (large many e) h = many
-    to (bad few b e) h = absurd (omega (arith, answered rows (zeros 17) e 16 h))
-    to (good g) h = absurd (omega (arith, answered rows (figures rows) g.is 16 h))
+    to (bad few b e) h = let z : ◌≡◌ {A = Result Figures Refusal} (Err BadRow) (Err TooManyRows) = sym e ∙ h in absurd (cc)
+    to (good g) h = absurd (not_refused (sym h ∙ g.is))
 
 pub seventeen : Seventeen
-seventeen rows = ((λ h. to (case rows) h), (λ w. ap (λ (f : Figures). f.answer) (bad_is rows w.0 (bad_there rows w.1.0 w.1.1 w.1.2))))
+seventeen rows = ((λ h. to (case rows) h), (λ w. report_bad rows w.0 (bad_there rows w.1.0 w.1.1 w.1.2)))
   where
-    to : Case rows → (report_of rows).answer ≡ 17 → (length rows ≤ 64) × ((k : ℕ) × (k < length rows) × Bad (row rows k))
-    to (large many e) h = absurd (omega (arith, answered rows (zeros 16) e 17 h))
+    to : Case rows → report_of rows ≡ Err BadRow → (length rows ≤ 64) × ((k : ℕ) × (k < length rows) × Bad (row rows k))
+    to (large many e) h = let z : ◌≡◌ {A = Result Figures Refusal} (Err TooManyRows) (Err BadRow) = sym e ∙ h in absurd (cc)
     to (bad few b e) h = (few, some_bad rows b)
-    to (good g) h = absurd (omega (arith, answered rows (figures rows) g.is 17 h))
+    to (good g) h = absurd (not_refused (sym h ∙ g.is))
 
 pub served_exactly : ServedExactly
-served_exactly rows = ((λ h. to (served rows h)), (λ w. from w.0 w.1 (any_bad rows) refl))
+served_exactly rows = ((λ h. to (case rows) h), (λ w. from w.0 w.1 (any_bad rows) refl))
   where
-    to : Good rows → (length rows ≤ 64) × ((k : ℕ) → k < length rows → Bad (row rows k) → ⊥)
-    to g = (g.few, λ k l b. let z : ◌≡◌ {A = ℕ} 0 1 = (cc (g.fine, bad_there rows k l b)) in omega arith)
+    to : Case rows → IsOk (report_of rows) → (length rows ≤ 64) × ((k : ℕ) → k < length rows → Bad (row rows k) → ⊥)
+    to (large many e) h = let z : false ≡ true = rw e at h in absurd (cc)
+    to (bad few b e) h = let z : false ≡ true = rw e at h in absurd (cc)
+    to (good g) h = (g.few, λ k l b. let z : true ≡ false = sym (bad_there rows k l b) ∙ g.fine in cc)
 
-    from : length rows ≤ 64 → ((k : ℕ) → k < length rows → Bad (row rows k) → ⊥) → (b : Bool) → any_bad rows ≡ b → (report_of rows).answer ≡ 0
+    from : length rows ≤ 64 → ((k : ℕ) → k < length rows → Bad (row rows k) → ⊥) → (b : Bool) → any_bad rows ≡ b → IsOk (report_of rows)
     from few none true e = let w = some_bad rows e in absurd (none w.0 w.1 w.2)
-    from few none false e = ap (λ (f : Figures). f.answer) (good_is rows few e).is
+    from few none false e = ap is_ok (good_is rows few e).is
 
 pub no_figures : NoFigures
 no_figures rows h = by (case rows)
   where
-    by : Case rows → report_of rows ≡ zeros (report_of rows).answer
-    by (large many e) = e ∙ ap zeros (sym (ap (λ (f : Figures). f.answer) e))
-    by (bad few b e) = e ∙ ap zeros (sym (ap (λ (f : Figures). f.answer) e))
-    by (good g) = absurd (h (ap (λ (f : Figures). f.answer) g.is))
+    by : Case rows → (report_of rows ≡ Err TooManyRows) ⊎ (report_of rows ≡ Err BadRow)
+    by (large many e) = inl e
+    by (bad few b e) = inr e
+    by (good g) = let z : false ≡ true = rw g.is at h in absurd (cc)
 
 pub empty_table : EmptyTable
-empty_table = report_none
+unfolding any_bad total lowest_from
+empty_table = report_good [] (omega arith) refl

@@ -10,11 +10,11 @@ use lib.Dec.{leb}
 use lib.ListN.{length, length-append, get_or-append}
 use lib.Seq.{get_or-append_seam}
 use borrow.Author.Tests.{leb-true, leb-false}
-use Rattle.shelf.specs.Shelf.{any_bad, no_row}
+use Rattle.std.specs.Prelude.{Some}
+use Rattle.shelf.specs.Shelf.{any_bad, at_place, no_row}
 use Rattle.shelf.specs.Ratios.{All, AtMost, Under}
 use Rattle.shelf.specs.declared.Row.{Row}
 use Rattle.shelf_row.specs.declared.Figures.{Figures}
-use Rattle.shelf_row.specs.declared.Lowest.TheVariants.{At}
 use Rattle.shelf.proofs.Arith.{ratio_le}
 use Rattle.shelf.proofs.Low.{Split, split, all_full, lowest_is}
 use Rattle.shelf_laws.specs.Promises.{row, IsLowest, LowestIs, OneLowest, Ordered}
@@ -45,11 +45,11 @@ some_split [] g l = absurd (omega arith)
 some_split (r ∷ rows) g l = split r rows (all_full (r ∷ rows) g)
 
 pub lowest_row : LowestIs
-lowest_row rows h l =
-    let g = served rows h in
-    let w : Split rows = some_split rows g.fine l in (
+lowest_row rows f h l =
+    let g = served rows f h in
+    let w : Split rows = some_split rows g.0.fine l in (
       length w.before,
-      ap (λ (f : Figures). f.lowest) g.is ∙ (lowest_is rows w ∙ ap (λ (r : Row). At r.remaining r.full (length w.before)) (sym (row_is rows w))),
+      ap (λ (f : Figures). f.lowest) g.1 ∙ lowest_is rows w ∙ ap (λ (r : Row). Some (at_place r (length w.before))) (sym (row_is rows w)),
       of-split rows w,
     )
 

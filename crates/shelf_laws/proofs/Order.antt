@@ -10,14 +10,14 @@ use Prim.Native.Nat.{ℕ, suc, ◌+◌}
 use native.Mathlib.Nat.{ℕ_set, le_antisymm}
 use native.Mathlib.Omega.{arith}
 use lib.ListN.{length}
-use Rattle.shelf.specs.Shelf.{any_bad, total, lowest_from, lowest_of, report_of}
+use Rattle.shelf.specs.Shelf.{any_bad, total, lowest_from, lowest_of, figures, report_of}
 use Rattle.shelf.specs.Ratios.{All, AtMost}
 use Rattle.shelf.specs.declared.Row.{Row}
-use Rattle.shelf_row.specs.Rows.{is_bad, is_low, zeros}
+use Rattle.shelf_row.specs.Rows.{is_bad, is_low}
 use Rattle.shelf.proofs.Low.{all_mid, Split, split, all_full, lowest_is}
-use Rattle.shelf.proofs.Steps.{report_large}
-use Rattle.shelf_laws.specs.Promises.{SameRatio, SameFigures, AnyOrder}
-use Rattle.shelf_laws.proofs.Cases.{Case, large, bad, good, Good, case, good_is, bad_is}
+use Rattle.shelf.proofs.Steps.{report_large, report_bad}
+use Rattle.shelf_laws.specs.Promises.{SameRatio, SameFigures, SameReport, AnyOrder}
+use Rattle.shelf_laws.proofs.Cases.{Case, large, bad, good, Good, case, good_is}
 
 -- ---- folds
 
@@ -70,9 +70,6 @@ same_lowest (x ∷ xs) (y ∷ ys) p n g h =
 
 -- ---- the figures
 
-same_zeros : (n : ℕ) → SameFigures (zeros n) (zeros n)
-same_zeros n = record { answer = refl; packs = refl; remaining = refl; full = refl; low = refl; lowest = tt }
-
 pub any_order : AnyOrder
 any_order xs ys p = by (case xs)
   where
@@ -82,17 +79,17 @@ any_order xs ys p = by (case xs)
     b : any_bad xs ≡ any_bad ys
     b = any-bad xs ys p
 
-    by : Case xs → SameFigures (report_of xs) (report_of ys)
-    by (large many e) = rw (e, report_large ys (omega (arith, n))) (same_zeros 16)
-    by (bad few e f) = rw (f, bad_is ys (omega (arith, n)) (sym b ∙ e)) (same_zeros 17)
+    by : Case xs → SameReport (report_of xs) (report_of ys)
+    by (large many e) = rw (e, report_large ys (omega (arith, n))) refl
+    by (bad few e f) = rw (f, report_bad ys (omega (arith, n)) (sym b ∙ e)) refl
     by (good g) =
         let few = g.few in
         let h = good_is ys (omega (arith, n)) (sym b ∙ g.fine) in
-        rw (g.is, h.is) (record {
-          answer = refl;
+        let same : SameFigures (figures xs) (figures ys) = record {
           packs = n;
           remaining = any_total (λ (r : Row). r.remaining) xs ys p;
           full = any_total (λ (r : Row). r.full) xs ys p;
           low = any_total (λ (r : Row). cond (is_low r.remaining r.full) 1 0) xs ys p;
           lowest = same_lowest xs ys p n g h;
-        })
+        } in
+        rw (g.is, h.is) same

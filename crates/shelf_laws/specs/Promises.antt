@@ -1,14 +1,15 @@
 -- Request R-1: what holds of every report, the theorems that `proofs/` proves.
 -- Assumes nothing.
-use Rattle.std.specs.Prelude.{ℕ, ◌+◌, ◌*◌, ◌^◌, ◌≤◌, ◌<◌, cond, ◌⊎◌, ◌↔◌, ◌≡◌, length, get_or}
+use Rattle.std.specs.Prelude.{ℕ, ◌+◌, ◌*◌, ◌^◌, ◌≤◌, ◌<◌, cond, ◌⊎◌, ◌↔◌, ◌≡◌, length, get_or, Option, Some, None, Result, Ok, Err, IsOk, IsErr}
 use mathlib.Core.List.{List, [], ◌∷◌, ◌++◌, Perm}
-use Rattle.shelf.specs.Shelf.{no_row, report_of, total_remaining, total_full}
+use Rattle.refusals.specs.declared.Refusal.{Refusal}
+use Rattle.refusals.specs.declared.Refusal.TheVariants.{TooManyRows, BadRow}
+use Rattle.shelf.specs.Shelf.{no_row, at_place, report_of, total_remaining, total_full}
 use Rattle.shelf.specs.Ratios.{All, AtMost, Under}
 use Rattle.shelf.specs.declared.Row.{Row}
-use Rattle.shelf_row.specs.Rows.{is_low, lowest_place, zeros}
+use Rattle.shelf_row.specs.Rows.{is_low, no_rows, shown}
 use Rattle.shelf_row.specs.declared.Figures.{Figures}
 use Rattle.shelf_row.specs.declared.Lowest.{Lowest}
-use Rattle.shelf_row.specs.declared.Lowest.TheVariants.{At, None}
 
 -- ---- tables
 
@@ -43,14 +44,14 @@ pub record Sums (rows : List Row) (f : Figures) : Type 0 where
 
 -- 1. of every served table
 abbrev pub TotalsAreSums : Type 0
-TotalsAreSums = (rows : List Row) → (report_of rows).answer ≡ 0 → Sums rows (report_of rows)
+TotalsAreSums = (rows : List Row) (f : Figures) → report_of rows ≡ Ok f → Sums rows f
 
 -- 2. no total of words passes 64 of them, and these are below 2^32; no count passes 64 and no place 63
 abbrev pub TotalsFit : Type 0
-TotalsFit = (rows : List Row) → Words rows → ((report_of rows).remaining ≤ 64 * 65535) × ((report_of rows).full ≤ 64 * 65535) × (64 * 65535 < 2 ^ 32)
+TotalsFit = (rows : List Row) (f : Figures) → report_of rows ≡ Ok f → Words rows → (f.remaining ≤ 64 * 65535) × (f.full ≤ 64 * 65535) × (64 * 65535 < 2 ^ 32)
 
 abbrev pub CountsFit : Type 0
-CountsFit = (rows : List Row) → ((report_of rows).packs ≤ 64) × ((report_of rows).low ≤ 64) × (lowest_place (report_of rows).lowest < 64)
+CountsFit = (rows : List Row) (f : Figures) → report_of rows ≡ Ok f → (f.packs ≤ 64) × (f.low ≤ 64) × ((shown f.lowest).place < 64)
 
 -- ---- the lowest
 
@@ -63,8 +64,8 @@ pub record IsLowest (rows : List Row) (place : ℕ) : Type 0 where
 -- 3. a served table with a row shows such a place, with its row's two numbers
 abbrev pub LowestIs : Type 0
 LowestIs =
-    (rows : List Row) → (report_of rows).answer ≡ 0 → 0 < length rows
-    → (place : ℕ) × ((report_of rows).lowest ≡ At (row rows place).remaining (row rows place).full place) × IsLowest rows place
+    (rows : List Row) (f : Figures) → report_of rows ≡ Ok f → 0 < length rows
+    → (place : ℕ) × (f.lowest ≡ Some (at_place (row rows place) place)) × IsLowest rows place
 
 -- and there is no other
 abbrev pub OneLowest : Type 0
@@ -84,55 +85,61 @@ Bad r = (r.full ≡ 0) ⊎ ((r.design ≡ 0) ⊎ (r.full < r.remaining))
 
 -- 4. 16 exactly for more than 64 rows
 abbrev pub Sixteen : Type 0
-Sixteen = (rows : List Row) → ((report_of rows).answer ≡ 16) ↔ (64 < length rows)
+Sixteen = (rows : List Row) → (report_of rows ≡ Err TooManyRows) ↔ (64 < length rows)
 
 -- 17 exactly for at most 64 rows of which one is bad
 abbrev pub Seventeen : Type 0
-Seventeen = (rows : List Row) → ((report_of rows).answer ≡ 17) ↔ ((length rows ≤ 64) × ((k : ℕ) × (k < length rows) × Bad (row rows k)))
+Seventeen = (rows : List Row) → (report_of rows ≡ Err BadRow) ↔ ((length rows ≤ 64) × ((k : ℕ) × (k < length rows) × Bad (row rows k)))
 
--- 0 exactly for neither
+-- figures exactly for neither
 abbrev pub ServedExactly : Type 0
-ServedExactly = (rows : List Row) → ((report_of rows).answer ≡ 0) ↔ ((length rows ≤ 64) × ((k : ℕ) → k < length rows → Bad (row rows k) → ⊥))
+ServedExactly = (rows : List Row) → IsOk (report_of rows) ↔ ((length rows ≤ 64) × ((k : ℕ) → k < length rows → Bad (row rows k) → ⊥))
 
--- a refusal gives no figures
+-- a refusal is one of these two alone, and so gives no figures (RULES 13.6)
 abbrev pub NoFigures : Type 0
-NoFigures = (rows : List Row) → ((report_of rows).answer ≡ 0 → ⊥) → report_of rows ≡ zeros (report_of rows).answer
+NoFigures = (rows : List Row) → IsErr (report_of rows) → (report_of rows ≡ Err TooManyRows) ⊎ (report_of rows ≡ Err BadRow)
 
 -- ---- order
 
 -- no lowest row in both, or two of one ratio, by products
-abbrev pub SameRatio : Lowest → Lowest → Type 0
+abbrev pub SameRatio : Option Lowest → Option Lowest → Type 0
 SameRatio None None = Unit {0}
-SameRatio None (At remaining full place) = ⊥
-SameRatio (At remaining full place) None = ⊥
-SameRatio (At a b p) (At c d q) = a * d ≡ c * b
+SameRatio None (Some m) = ⊥
+SameRatio (Some l) None = ⊥
+SameRatio (Some l) (Some m) = l.remaining * m.full ≡ m.remaining * l.full
 
 -- the same but for which of those with the lowest ratio is shown, and its place
 pub record SameFigures (f g : Figures) : Type 0 where
-  pub answer : f.answer ≡ g.answer
   pub packs : f.packs ≡ g.packs
   pub remaining : f.remaining ≡ g.remaining
   pub full : f.full ≡ g.full
   pub low : f.low ≡ g.low
   pub lowest : SameRatio f.lowest g.lowest
 
+-- both with such figures, or both refused alike
+abbrev pub SameReport : Result Figures Refusal → Result Figures Refusal → Type 0
+SameReport (Ok f) (Ok g) = SameFigures f g
+SameReport (Ok f) (Err q) = ⊥
+SameReport (Err p) (Ok g) = ⊥
+SameReport (Err p) (Err q) = p ≡ q
+
 -- 5. the order of the rows changes nothing else
 abbrev pub AnyOrder : Type 0
-AnyOrder = (xs ys : List Row) → Perm xs ys → SameFigures (report_of xs) (report_of ys)
+AnyOrder = (xs ys : List Row) → Perm xs ys → SameReport (report_of xs) (report_of ys)
 
--- both are served, and their figures add up
+-- figures that add up to those of the whole
 pub record Joined (f g whole : Figures) : Type 0 where
-  pub first : f.answer ≡ 0
-  pub second : g.answer ≡ 0
   pub packs : whole.packs ≡ f.packs + g.packs
   pub remaining : whole.remaining ≡ f.remaining + g.remaining
   pub full : whole.full ≡ f.full + g.full
   pub low : whole.low ≡ f.low + g.low
 
--- totals and counts of a served table split where the table does
+-- both parts of a served table are served, and its totals and counts split where it does
 abbrev pub Splits : Type 0
-Splits = (xs ys : List Row) → (report_of (xs ++ ys)).answer ≡ 0 → Joined (report_of xs) (report_of ys) (report_of (xs ++ ys))
+Splits =
+    (xs ys : List Row) (whole : Figures) → report_of (xs ++ ys) ≡ Ok whole
+    → (f : Figures) × ((g : Figures) × ((report_of xs ≡ Ok f) × ((report_of ys ≡ Ok g) × Joined f g whole)))
 
 -- 6. an empty table gives zeros and no lowest row
 abbrev pub EmptyTable : Type 0
-EmptyTable = report_of [] ≡ zeros 0
+EmptyTable = report_of [] ≡ Ok no_rows

@@ -1,13 +1,12 @@
 -- A table's bytes and its rows say the same, and so do a report and its bytes: what `proofs/` proves.
 -- Assumes nothing.
-use Rattle.std.specs.Prelude.{ℕ, false, cond, List, [], ◌∷◌, ◌++◌, ◌≡◌, length, get_or}
+use Rattle.std.specs.Prelude.{ℕ, false, if◌then◌else◌, List, [], ◌∷◌, ◌++◌, ◌≡◌, length, get_or, Some, None, Ok, IsOk}
 use Rattle.numbers.specs.Numbers.{numbers_bytes, numbers_at, flagged}
 use Rattle.rooms.specs.Rooms.{Bytes}
 use Rattle.shelf.specs.Shelf.{report_of}
 use Rattle.shelf.specs.declared.Row.{Row}
 use Rattle.shelf_row.specs.declared.Figures.{Figures}
-use Rattle.shelf_row.specs.declared.Lowest.TheVariants.{At, None}
-use Rattle.shelf_table.specs.Table.{row_widths, rows_in, is_ragged, figures_widths, figures_bytes, table_answer, table_room}
+use Rattle.shelf_table.specs.Table.{row_widths, rows_in, is_ragged, figures_widths, figures_bytes, table_wrote, table_room}
 use Rattle.shelf_laws.specs.Promises.{Words}
 
 -- ---- tables
@@ -51,11 +50,10 @@ RowsTell = (a b : List ℕ) → Bytes a → Bytes b → is_ragged a ≡ false �
 abbrev pub figures_from : List ℕ → Figures
 figures_from ns =
     record {
-      answer = 0;
       packs = get_or ns 0 0;
       remaining = get_or ns 1 0;
       full = get_or ns 2 0;
-      lowest = cond (flagged (get_or ns 3 0)) (At (get_or ns 4 0) (get_or ns 5 0) (get_or ns 6 0)) None;
+      lowest = if flagged (get_or ns 3 0) then Some (record { remaining = get_or ns 4 0; full = get_or ns 5 0; place = get_or ns 6 0 }) else None;
       low = get_or ns 7 0;
     }
 
@@ -69,14 +67,14 @@ SixteenBytes = (f : Figures) → length (figures_bytes f) ≡ 16
 
 -- the figures of a served table of words are read back from their bytes
 abbrev pub FiguresBack : Type 0
-FiguresBack = (rows : List Row) → Words rows → (report_of rows).answer ≡ 0 → figures_in (figures_bytes (report_of rows)) ≡ report_of rows
+FiguresBack = (rows : List Row) (f : Figures) → Words rows → report_of rows ≡ Ok f → figures_in (figures_bytes f) ≡ f
 
 -- so different figures never look alike
 abbrev pub FiguresTell : Type 0
 FiguresTell =
-    (xs ys : List Row) → Words xs → Words ys → (report_of xs).answer ≡ 0 → (report_of ys).answer ≡ 0
-    → figures_bytes (report_of xs) ≡ figures_bytes (report_of ys) → report_of xs ≡ report_of ys
+    (xs ys : List Row) (f g : Figures) → Words xs → Words ys → report_of xs ≡ Ok f → report_of ys ≡ Ok g
+    → figures_bytes f ≡ figures_bytes g → f ≡ g
 
 -- and the room of a served call shows its table's
 abbrev pub RoomShows : Type 0
-RoomShows = (table room : List ℕ) → Bytes table → table_answer table room ≡ 0 → figures_in (table_room table room) ≡ report_of (rows_in table)
+RoomShows = (table room : List ℕ) → Bytes table → IsOk (table_wrote table room) → report_of (rows_in table) ≡ Ok (figures_in (table_room table room))

@@ -1,37 +1,35 @@
 -- One row more: what it does to the figures of the rows before it, and what these must leave room for.
 -- Assumes nothing.
-use Rattle.std.specs.Prelude.{ℕ, ◌+◌, ◌*◌, ◌≤◌, ◌<◌, cond, ltb, eqb}
+use Rattle.std.specs.Prelude.{ℕ, ◌+◌, ◌*◌, ◌≤◌, ◌<◌, Bool, cond, ltb, if◌then◌else◌, Option, Some, None, Result, Ok, Err}
+use Rattle.refusals.specs.declared.Refusal.{Refusal}
+use Rattle.refusals.specs.declared.Refusal.TheVariants.{BadRow}
 use Rattle.shelf_row.specs.declared.Figures.{Figures}
 use Rattle.shelf_row.specs.declared.Lowest.{Lowest}
-use Rattle.shelf_row.specs.declared.Lowest.TheVariants.{At, None}
-use Rattle.shelf_row.specs.Rows.{row_answer, is_low, zeros}
+use Rattle.shelf_row.specs.Rows.{is_bad, is_low}
+
+-- remaining ÷ full is strictly below another's, by products (RULES 13.5)
+abbrev pub is_below : Lowest → Lowest → Bool
+is_below row other = ltb (row.remaining * other.full) (other.remaining * row.full)
 
 -- the lowest so far and a row: the row only if its ratio is strictly below
-abbrev pub lowest_with : Lowest → ℕ → ℕ → ℕ → Lowest
-lowest_with None remaining full place = At remaining full place
-lowest_with (At a b p) remaining full place = cond (ltb (remaining * b) (a * full)) (At remaining full place) (At a b p)
+abbrev pub lowest_with : Option Lowest → Lowest → Lowest
+lowest_with None row = row
+lowest_with (Some before) row = if is_below row before then row else before
 
 -- the figures with a row that is not bad
 abbrev pub counted_in : Figures → ℕ → ℕ → Figures
 counted_in t remaining full =
     record {
-      answer = 0;
       packs = t.packs + 1;
       remaining = t.remaining + remaining;
       full = t.full + full;
-      lowest = lowest_with t.lowest remaining full t.packs;
+      lowest = Some (lowest_with t.lowest (record { remaining = remaining; full = full; place = t.packs }));
       low = t.low + cond (is_low remaining full) 1 0;
     }
 
--- an answer given before stays
-abbrev pub first_given : ℕ → ℕ → ℕ
-first_given before row = cond (eqb before 0) row before
-
--- the figures with a row; a refusal has none
-unfoldable pub figures_with : Figures → ℕ → ℕ → ℕ → Figures
-figures_with t remaining full design =
-    let answer : ℕ = first_given t.answer (row_answer remaining full design) in
-    cond (eqb answer 0) (counted_in t remaining full) (zeros answer)
+-- the figures with a row; 17: it is bad, so there are none (RULES 13.6)
+unfoldable pub figures_with : Figures → ℕ → ℕ → ℕ → Result Figures Refusal
+figures_with t remaining full design = if is_bad remaining full design then Err BadRow else Ok (counted_in t remaining full)
 
 -- the figures of fewer than 64 rows of words
 pub record Fits (t : Figures) : Type 0 where

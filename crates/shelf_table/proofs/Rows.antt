@@ -1,14 +1,12 @@
 -- The rows of a table: how many, which stands at a place, and what a turn of the loop over them does.
 -- Assumes nothing.
-use mathlib.Core.Path.{◌≡◌, refl, sym, ap, ◌∙◌}
-use mathlib.Core.List.{List}
-use Prim.Native.Nat.{ℕ, zero, suc, min, ◌+◌, ◌*◌, ◌/◌, ◌<◌}
-use native.Mathlib.Omega.{arith}
-use lib.ListN.{length, get_or, take}
+use Rattle.std.proofs.Common.{◌≡◌, refl, sym, ap, ◌∙◌, ℕ, zero, suc, ◌+◌, ◌*◌, ◌/◌, ◌<◌, ◌≤◌, List, length, get_or, Ok, Err, arith}
 use Rattle.numbers.specs.Numbers.{number_at}
+use Rattle.refusals.specs.declared.Refusal.{Refusal}
 use Rattle.shelf.specs.Shelf.{no_row, report_of}
-use Rattle.shelf.proofs.Steps.{Small, so_far, so_none, so-more, so-fits, so-small, so_last}
-use Rattle.shelf_row.specs.Rows.{count_answer, zeros}
+use Rattle.shelf.specs.declared.Row.{Row}
+use Rattle.shelf.proofs.Steps.{Read, read_none, read_many, read-fits, read-more, read-bad, read_all}
+use Rattle.shelf_row.specs.Rows.{begun}
 use Rattle.shelf_row.specs.Step.{figures_with, Fits}
 use Rattle.shelf_row.specs.declared.Figures.{Figures}
 use Rattle.shelf_table.specs.Table.{row_at, rows_at, rows_in}
@@ -32,24 +30,39 @@ module _ (table : List ℕ) where
 
   -- ---- the loop over them: before any row, after the last, and a turn
 
-  pub before-any : zeros (count_answer (length table / 8)) ≡ so_far (rows_in table) 0
-  before-any = ap (λ (n : ℕ). zeros (count_answer n)) (sym rows_length) ∙ so_none (rows_in table)
+  pub none-read : {t : Figures} → begun (length table / 8) ≡ Ok t → Read (rows_in table) 0 t
+  none-read {t} e = read_none (rows_in table) (ap begun rows_length ∙ e)
 
-  pub after_last : (i : ℕ) → i ≡ min (length table / 8) 64 → so_far (rows_in table) i ≡ report_of (rows_in table)
-  after_last i e = let n = rows_length in so_last (rows_in table) i (omega arith) (omega arith)
+  pub too-many : {e : Refusal} → begun (length table / 8) ≡ Err e → report_of (rows_in table) ≡ Err e
+  too-many {e} h = read_many (rows_in table) (ap begun rows_length ∙ h)
 
-  module _ (i : ℕ) (l : i < length table / 8) (h : i < 64) {t : Figures} (so : t ≡ so_far (rows_in table) i) (small : Small (take i (rows_in table))) where
+  pub all-read : (i : ℕ) {t : Figures} → Read (rows_in table) i t → length table / 8 ≤ i → report_of (rows_in table) ≡ Ok t
+  all-read i so h = read_all (rows_in table) i so (omega (arith, rows_length))
+
+  module _ (i : ℕ) {t : Figures} (so : Read (rows_in table) i t) (l : i < length table / 8) where
     within : i < length (rows_in table)
     within = omega (arith, rows_length)
 
     pub turn-fits : Fits t
-    turn-fits = rw so (so-fits (rows_in table) i within h small)
+    turn-fits = read-fits (rows_in table) i so within
 
-    module _ {at : ℕ} (e : at ≡ 8 * i) {remaining full design : ℕ} (a : remaining ≡ number_at 2 table at) (b : full ≡ number_at 2 table (at + 2)) (d : design ≡ number_at 2 table (at + 4)) where
-      pub turn : figures_with t remaining full design ≡ so_far (rows_in table) (i + 1)
-      turn =
+    module _ {remaining full design : ℕ} (a : remaining ≡ number_at 2 table (8 * i)) (b : full ≡ number_at 2 table (8 * i + 2)) (d : design ≡ number_at 2 table (8 * i + 4)) where
+      x : Row
+      x = get_or (rows_in table) i no_row
+
+      same : (x.remaining ≡ remaining) × ((x.full ≡ full) × (x.design ≡ design))
+      unfolding x
+      same =
           let f : 8 * i + 4 ≡ 8 * i + 2 + 2 = omega arith in
-          rw (so, a, b, d, e, f) (rw (row-at i l) at (so-more (rows_in table) i within h))
+          rw (row-at i l, a, b, d, f) (refl, (refl, refl))
 
-      pub turn_small : remaining < 65536 → full < 65536 → Small (take (i + 1) (rows_in table))
-      turn_small r f = so-small (rows_in table) i within (rw (row-at i l, ← e, ← a) r) (rw (row-at i l, ← e, ← b) f) small
+      here : figures_with t x.remaining x.full x.design ≡ figures_with t remaining full design
+      here = rw (same.0, same.1.0, same.1.1)
+
+      pub turn : {u : Figures} → remaining < 65536 → full < 65536 → figures_with t remaining full design ≡ Ok u → Read (rows_in table) (i + 1) u
+      unfolding x
+      turn {u} r f e = read-more (rows_in table) i so within (rw same.0 r) (rw same.1.0 f) (here ∙ e)
+
+      pub turn-bad : {e : Refusal} → figures_with t remaining full design ≡ Err e → report_of (rows_in table) ≡ Err e
+      unfolding x
+      turn-bad {e} h = read-bad (rows_in table) i so within (here ∙ h)

@@ -1,12 +1,13 @@
 -- The shelf's table and its report in lent bytes, for C: a row in 8, the figures in 16, each number low byte first.
 -- Assumes nothing.
-use Rattle.std.specs.Prelude.{ℕ, zero, suc, ◌*◌, ◌/◌, ◌%◌, Bool, cond, not, List, [], ◌∷◌, eqb, ltb, length, get_or, replicate}
+use Rattle.std.specs.Prelude.{ℕ, zero, suc, ◌*◌, ◌/◌, ◌%◌, Bool, not, if◌then◌else◌, List, [], ◌∷◌, eqb, ltb, length, get_or, replicate, is_some, Result, Ok, Err}
 use Rattle.numbers.specs.Numbers.{numbers_bytes, numbers_at, flag_of}
-use Rattle.rooms.specs.Rooms.{placed, wrote}
-use Rattle.rooms.specs.declared.Wrote.{Wrote}
-use Rattle.shelf.specs.Shelf.{report_answer, report_of}
+use Rattle.refusals.specs.declared.Refusal.{Refusal}
+use Rattle.refusals.specs.declared.Refusal.TheVariants.{SmallRoom, WrongForm}
+use Rattle.rooms.specs.Rooms.{placed}
+use Rattle.shelf.specs.Shelf.{report_of}
 use Rattle.shelf.specs.declared.Row.{Row}
-use Rattle.shelf_row.specs.Rows.{is_there, lowest_remaining, lowest_full, lowest_place}
+use Rattle.shelf_row.specs.Rows.{shown}
 use Rattle.shelf_row.specs.declared.Figures.{Figures}
 
 -- ---- a table
@@ -47,24 +48,32 @@ figures_numbers f =
     f.packs
     ∷ f.remaining
     ∷ f.full
-    ∷ flag_of (is_there f.lowest)
-    ∷ lowest_remaining f.lowest
-    ∷ lowest_full f.lowest
-    ∷ lowest_place f.lowest
+    ∷ flag_of (is_some f.lowest)
+    ∷ (shown f.lowest).remaining
+    ∷ (shown f.lowest).full
+    ∷ (shown f.lowest).place
     ∷ f.low
     ∷ []
 
 abbrev pub figures_bytes : Figures → List ℕ
 figures_bytes f = numbers_bytes figures_widths (figures_numbers f)
 
--- 2: a room under 16 bytes; 4: a table that isn't whole rows; 16 and 17 by its rows (RULES 1.2, 1.4, 13.6)
-abbrev pub table_answer : List ℕ → List ℕ → ℕ
-table_answer table room = cond (ltb (length room) 16) 2 (cond (is_ragged table) 4 (report_answer (rows_in table)))
+-- 2: a room under 16 bytes; then 4: a table that isn't whole rows; then the report of its rows (RULES 1.2, 1.4, 13.6)
+abbrev pub table_report : List ℕ → List ℕ → Result Figures Refusal
+table_report table room = if ltb (length room) 16 then Err SmallRoom else (if is_ragged table then Err WrongForm else report_of (rows_in table))
 
 -- served, 16 bytes are written
-abbrev pub table_wrote : List ℕ → List ℕ → Wrote
-table_wrote table room = wrote (table_answer table room) (cond (eqb (table_answer table room) 0) 16 0)
+abbrev pub bytes_told : Result Figures Refusal → Result ℕ Refusal
+bytes_told (Ok figures) = Ok 16
+bytes_told (Err reason) = Err reason
+
+abbrev pub table_wrote : List ℕ → List ℕ → Result ℕ Refusal
+table_wrote table room = bytes_told (table_report table room)
 
 -- served, the figures stand at the front of the room; refused, the room stays (RULES 2.3, 2.5)
+abbrev pub room_with : Result Figures Refusal → List ℕ → List ℕ
+room_with (Ok figures) room = placed (figures_bytes figures) room
+room_with (Err reason) room = room
+
 abbrev pub table_room : List ℕ → List ℕ → List ℕ
-table_room table room = cond (eqb (table_answer table room) 0) (placed (figures_bytes (report_of (rows_in table))) room) room
+table_room table room = room_with (table_report table room) room

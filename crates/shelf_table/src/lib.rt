@@ -2,71 +2,33 @@
 #![tactic(auto)]
 
 ghost use Rattle.std.specs.Prelude.{◌≡◌, length};
-ghost use Rattle.numbers.specs.Numbers.{bytes_taken, flag_of};
+ghost use Rattle.numbers.specs.Numbers.{bytes_taken};
 ghost use Rattle.shelf.specs.Shelf.{report_of};
-ghost use Rattle.shelf_row.specs.Rows.{is_there, lowest_remaining, lowest_full, lowest_place};
 ghost use Rattle.shelf_table.specs.Table.{rows_in, figures_widths, figures_bytes, table_wrote, table_room};
 
-use numbers::{put_number, word_at};
-use rooms::Wrote;
+use numbers::{number_at, put_number};
+use refusals::Refusal;
 use shelf_row::{Figures, Lowest};
 
+// A row's bytes, and a report's.
+const ROW: usize = 8;
+
+const REPORT: usize = 16;
+
 // The report of a table's whole rows: bytes past these are refused before.
-fn report_in(table: &[u8]) -> Figures
+fn report_in(table: &[u8]) -> Result<Figures, Refusal>
     ensures { result ≡ report_of (rows_in table.now) }
 {
-    let rows = table.len() / 8;
-    let last = shelf_row::read(rows);
-    let mut t = shelf_row::begin(rows);
-    let mut i: usize = 0;
-    while i < last {
-        let at = i << 3;
-        t = shelf_row::step(
-            t,
-            word_at(table, at),
-            word_at(table, at + 2),
-            word_at(table, at + 4),
-        );
-        i += 1;
+    let rows = table.len() / ROW;
+    let mut t = shelf_row::begin(rows)?;
+    for i in 0..rows {
+        let at = ROW * i;
+        let remaining = number_at(table, at);
+        let full = number_at(table, at + 2);
+        let design = number_at(table, at + 4);
+        t = shelf_row::step(t, remaining, full, design)?;
     }
-    t
-}
-
-// The flag that there is a lowest row.
-fn there(lowest: Lowest) -> u8
-    ensures { result ≡ flag_of (is_there lowest) }
-{
-    match lowest {
-        Lowest::At(_, _, _) => 1,
-        Lowest::None => 0,
-    }
-}
-
-fn remaining_of(lowest: Lowest) -> u16
-    ensures { result ≡ lowest_remaining lowest }
-{
-    match lowest {
-        Lowest::At(remaining, _, _) => remaining,
-        Lowest::None => 0,
-    }
-}
-
-fn full_of(lowest: Lowest) -> u16
-    ensures { result ≡ lowest_full lowest }
-{
-    match lowest {
-        Lowest::At(_, full, _) => full,
-        Lowest::None => 0,
-    }
-}
-
-fn place_of(lowest: Lowest) -> u32
-    ensures { result ≡ lowest_place lowest }
-{
-    match lowest {
-        Lowest::At(_, _, place) => place,
-        Lowest::None => 0,
-    }
+    Ok(t)
 }
 
 // The figures in their 16 bytes.
@@ -74,44 +36,33 @@ fn put_figures(part: &mut [u8], t: Figures)
     requires { length part.old ≡ bytes_taken figures_widths }
     ensures { part.new ≡ figures_bytes t }
 {
-    let lowest = t.lowest;
-    put_number(part, 0, 1, t.packs as u64);
-    put_number(part, 1, 4, t.remaining as u64);
-    put_number(part, 5, 4, t.full as u64);
-    put_number(part, 9, 1, there(lowest) as u64);
-    put_number(part, 10, 2, remaining_of(lowest) as u64);
-    put_number(part, 12, 2, full_of(lowest) as u64);
-    put_number(part, 14, 1, place_of(lowest) as u64);
-    put_number(part, 15, 1, t.low as u64);
+    let lowest = t.lowest.unwrap_or(Lowest {
+        remaining: 0,
+        full: 0,
+        place: 0,
+    });
+    put_number(part, 0, 1, u64::from(t.packs));
+    put_number(part, 1, 4, u64::from(t.remaining));
+    put_number(part, 5, 4, u64::from(t.full));
+    put_number(part, 9, 1, u64::from(t.lowest.is_some()));
+    put_number(part, 10, 2, u64::from(lowest.remaining));
+    put_number(part, 12, 2, u64::from(lowest.full));
+    put_number(part, 14, 1, u64::from(lowest.place));
+    put_number(part, 15, 1, u64::from(t.low));
 }
 
 // The report at the front of the room, which is written only where it is served.
-pub fn write_report(table: &[u8], room: &mut [u8]) -> Wrote
+pub fn write_report(table: &[u8], room: &mut [u8]) -> Result<usize, Refusal>
     ensures value { result ≡ table_wrote table.now room.old }
     ensures room_after { room.new ≡ table_room table.now room.old }
 {
-    if room.len() < 16 {
-        return Wrote {
-            answer: 2,
-            length: 0,
-        };
+    if room.len() < REPORT {
+        return Err(Refusal::SmallRoom);
     }
-    if table.len() % 8 != 0 {
-        return Wrote {
-            answer: 4,
-            length: 0,
-        };
+    if table.len() % ROW != 0 {
+        return Err(Refusal::WrongForm);
     }
-    let t = report_in(table);
-    if t.answer != 0 {
-        return Wrote {
-            answer: t.answer,
-            length: 0,
-        };
-    }
-    put_figures(&mut room[..16], t);
-    Wrote {
-        answer: 0,
-        length: 16,
-    }
+    let t = report_in(table)?;
+    put_figures(&mut room[..REPORT], t);
+    Ok(REPORT)
 }

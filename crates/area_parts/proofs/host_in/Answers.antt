@@ -1,6 +1,4 @@
--- `area_parts::host_in` meets its contract.
--- Assumes nothing.
 use Rattle.area_parts.proofs.host_in.Goals as goal
 
 pub returns : goal.returns
-returns c = rw (c.words_at.ensures, c.byte_at.ensures, c.byte_at-2.ensures, c.byte_at-3.ensures)
+returns c = rw (c.numbers_at.ensures, c.number_at.ensures, c.number_at-2.ensures, c.number_at-3.ensures)

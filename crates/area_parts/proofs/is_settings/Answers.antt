@@ -1,7 +1,5 @@
--- `area_parts::is_settings` meets its contract.
--- Assumes nothing.
 use mathlib.Core.Bool.{and-true}
 use Rattle.area_parts.proofs.is_settings.Goals as goal
 
 pub returns : goal.returns
-returns c = rw c.byte_at.ensures (simp and-true)
+returns c = rw c.number_at.ensures (simp and-true)

@@ -16,5 +16,5 @@ bounds-part-10 c = simp length-set (omega arith)
 
 pub returns : goal.returns
 returns c =
-    rw (c.flag-3.ensures ∙ flag_byte c.args.h.CapacityMode, c.flag-2.ensures ∙ flag_byte c.args.h.ChargerMode, c.flag.ensures ∙ flag_byte c.args.h.AlarmMode, c.put_words.ensures.memory)
+    rw (c.from-3.ensures ∙ flag_byte c.args.h.CapacityMode, c.from-2.ensures ∙ flag_byte c.args.h.ChargerMode, c.from.ensures ∙ flag_byte c.args.h.AlarmMode, c.put_numbers.ensures.memory)
     (whole c.args.part.now (host_bytes c.args.h) (sym c.requires))

@@ -7,5 +7,5 @@ use Rattle.area_parts.proofs.put_latest.Goals as goal
 
 pub returns : goal.returns
 returns c =
-    rw (c.put_number.ensures, c.put_words.ensures.memory)
+    rw (c.put_number.ensures, c.from.ensures, c.put_numbers.ensures.memory)
     (whole c.args.part.now (latest_bytes c.args.l) (sym c.requires))

@@ -8,5 +8,5 @@ use Rattle.area_parts.proofs.put_settings.Goals as goal
 
 pub returns : goal.returns
 returns c =
-    rw (c.flag.ensures ∙ flag_byte c.args.s.plain, c.put_words.ensures.memory)
+    rw (c.from.ensures ∙ flag_byte c.args.s.plain, c.put_numbers.ensures.memory)
     (whole c.args.part.now (settings_bytes c.args.s) (sym c.requires))

@@ -1,5 +1,3 @@
--- `area_parts::recent_in` meets its contract.
--- Assumes nothing.
 use Rattle.area_parts.specs.Parts.{recent_in}
 use Rattle.area_parts.proofs.recent_in.Goals as goal
 
@@ -7,9 +5,9 @@ pub returns : goal.returns
 unfolding recent_in
 returns c =
     rw (
-      c.long_at.ensures,
-      c.word_at.ensures,
-      c.wide-count.ensures.0,
-      c.byte_at.ensures,
-      c.longs_at.ensures,
+      c.number_at-3.ensures,
+      c.number_at-2.ensures,
+      c.from.ensures,
+      c.number_at.ensures,
+      c.numbers_at.ensures,
     )

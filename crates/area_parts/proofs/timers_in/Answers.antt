@@ -1,6 +1,4 @@
--- `area_parts::timers_in` meets its contract.
--- Assumes nothing.
 use Rattle.area_parts.proofs.timers_in.Goals as goal
 
 pub returns : goal.returns
-returns c = rw (c.long_at.ensures, c.long_at-2.ensures, c.long_at-3.ensures)
+returns c = rw (c.number_at.ensures, c.number_at-2.ensures, c.number_at-3.ensures)

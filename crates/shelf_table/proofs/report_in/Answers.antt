@@ -1,29 +1,30 @@
--- `shelf_table::report_in` meets its contract.
--- Assumes nothing.
-use mathlib.Core.Path.{◌∙◌}
-use native.Mathlib.Omega.{arith}
-use Rattle.shelf.proofs.Steps.{small_none}
-use Rattle.shelf_table.proofs.Rows.{before-any, after_last, turn-fits, turn, turn_small}
+use Rattle.std.proofs.Common.{sym, ◌∙◌, arith}
+use Rattle.std.proofs.lemmas.Result.{err_from_is_err_and}
+use Rattle.shelf_table.proofs.Rows.{none-read, too-many, all-read, turn-fits, turn, turn-bad}
 use Rattle.shelf_table.proofs.report_in.Goals as goal
 
-pub loop-i-init : goal.loop-i-init
-loop-i-init c = (omega arith, c.begin-t.ensures ∙ before-any c.args.table.now, small_none)
+pub returns-in_err-t : goal.returns-in_err-t
+returns-in_err-t c =
+    let p = err_from_is_err_and c.from_residual.result c.from_residual.ensures.1 in
+    rw (p.1, p.2) (sym (too-many c.args.table.now (sym c.begin.ensures ∙ c.in_err-t.was)))
 
-pub step-t-requires : goal.step-t-requires
-step-t-requires c =
+pub loop-i-init : goal.loop-i-init
+loop-i-init c = none-read c.args.table.now (sym c.begin.ensures ∙ c.in_ok-t.was)
+
+pub step-requires : goal.step-requires
+step-requires c = let l = c.loop-i in turn-fits c.args.table.now l.i l.invariant (omega arith)
+
+pub returns-in_err-t-2 : goal.returns-in_err-t-2
+returns-in_err-t-2 c =
     let l = c.loop-i in
-    turn-fits c.args.table.now l.i (omega arith) (omega arith) l.invariant.1 l.invariant.2
+    let p = err_from_is_err_and c.from_residual-in_err-t-2.result c.from_residual-in_err-t-2.ensures.1 in
+    let bad = turn-bad c.args.table.now l.i l.invariant (omega arith) c.number_at-remaining.ensures c.number_at-full.ensures c.number_at-design.ensures (sym c.step.ensures ∙ c.in_err-t-2.was) in
+    rw (p.1, p.2) (sym bad)
 
 pub loop-i-preserved : goal.loop-i-preserved
 loop-i-preserved c =
     let l = c.loop-i in
-    let table = c.args.table.now in
-    let a = c.word_at in
-    let b = c.word_at-in-loop-i in (
-      omega arith,
-      c.step-t.ensures ∙ turn table l.i (omega arith) (omega arith) l.invariant.1 l.invariant.2 (omega arith) a.ensures b.ensures c.word_at-in-loop-i-2.ensures,
-      turn_small table l.i (omega arith) (omega arith) l.invariant.1 l.invariant.2 (omega arith) a.ensures b.ensures c.word_at-in-loop-i-2.ensures (omega arith) (omega arith),
-    )
+    turn c.args.table.now l.i l.invariant (omega arith) c.number_at-remaining.ensures c.number_at-full.ensures c.number_at-design.ensures (omega arith) (omega arith) (sym c.step.ensures ∙ c.in_ok-t-2.was)
 
 pub returns : goal.returns
-returns c = let l = c.loop-i in l.invariant.1 ∙ after_last c.args.table.now l.i (omega arith)
+returns c = let l = c.loop-i in sym (all-read c.args.table.now l.i l.invariant (omega arith))
