@@ -52,6 +52,11 @@ sum_can m n (negsuc a) (pos b) h k =
     sub_can (m + n) b (suc a) (omega (arith, can_pos n b k)) (omega (arith, can_neg m a h))
 sum_can m n (negsuc a) (negsuc b) h k = neg_can (m + n) (suc (a + b)) (omega (arith, can_neg m a h, can_neg n b k))
 
+-- in more milliseconds too
+pub can_longer : (m n : ℕ) (z : ℤ) → m ≤ n → can_give m z ≡ true → can_give n z ≡ true
+can_longer m n (pos a) k h = pos_can n a (omega (arith, can_pos m a h))
+can_longer m n (negsuc a) k h = neg_can n a (omega (arith, can_neg m a h))
+
 -- in a minute a signed 32-bit number
 pub can_fits : (ms : ℕ) (z : ℤ) → ms ≤ 60000 → can_give ms z ≡ true → SFits w32 z
 can_fits ms (pos n) h k = record { sfits = omega (arith, can_pos ms n k) }
