@@ -1,4 +1,4 @@
--- Integers as differences of natural numbers: sums, quotients cut toward zero, and their 16-bit words.
+-- Integers as differences of natural numbers, quotients, and 16-bit words.
 -- Assumes nothing.
 use Rattle.std.proofs.Common.{◌≡◌, ℕ, zero, suc, ◌-◌, ◌*◌, ◌/◌, ◌<◌, ◌≤◌, pos, negsuc, neg_ℤ, mul_comm, arith, w16, w32, to_z, of_z, le-ltb, lt-ltb}
 use native.Mathlib.Nat.{div-le_of_le-mul}
@@ -10,14 +10,6 @@ sub_lt x y h = simp (lt-ltb x y h)
 
 pub sub_ge : (x y : ℕ) → y ≤ x → sub_ℕ x y ≡ pos (x - y)
 sub_ge x y h = simp (le-ltb x y h)
-
--- a total below 2^31 stands for itself
-pub low32 : (t : ℕ) → t < 2147483648 → to_z w32 t ≡ pos t
-low32 t h = simp (lt-ltb t 2147483648 h)
-
--- any other stands for 2^32 less
-pub high32 : (t : ℕ) → 2147483648 ≤ t → to_z w32 t ≡ negsuc (4294967296 - suc t)
-high32 t h = simp (le-ltb t 2147483648 h)
 
 -- a sum of n numbers, over n
 pub over : (most x n : ℕ) → x ≤ most * n → x / n ≤ most
