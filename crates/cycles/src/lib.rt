@@ -28,9 +28,9 @@ pub fn counted(design: u16, cycles: u16, toward: u64, drawn: u64) -> Cycles
 {
     let one = capacity::milliamp_ms(design);
     let total = toward + drawn;
-    let count = capacity::capped((cycles as u64) + total / one);
+    let count = capacity::capped(u64::from(cycles) + total / one);
     Cycles {
-        count: count,
+        count,
         toward: total % one,
     }
 }

@@ -33,8 +33,7 @@ fn drawn_in(u: Run, v: Seen) -> u64
     requires { (u.drawn ≤ milliamp_ms 65535) × (v.drawn ≤ 32768 * 4294967295) }
     ensures { result ≡ drawn_in u v }
 {
-    let drawn = u.drawn + v.drawn;
-    if drawn < RUN_MOST { drawn } else { RUN_MOST }
+    (u.drawn + v.drawn).min(RUN_MOST)
 }
 
 pub fn run_after(u: Run, v: Seen) -> Run
@@ -42,15 +41,9 @@ pub fn run_after(u: Run, v: Seen) -> Run
     ensures { result ≡ run_after u v }
 {
     let on = counts_on(u, v);
-    if on {
-        return Run {
-            opened: v.filled | on,
-            drawn: drawn_in(u, v),
-        };
-    }
     Run {
         opened: v.filled | on,
-        drawn: 0,
+        drawn: if on { drawn_in(u, v) } else { 0 },
     }
 }
 
@@ -58,6 +51,5 @@ pub fn full_learned(u: Run, v: Seen) -> u16
     requires { (u.drawn ≤ milliamp_ms 65535) × (v.drawn ≤ 32768 * 4294967295) }
     ensures { result ≡ learned u v }
 {
-    let whole = drawn_in(u, v) / 3600000;
-    if whole == 0 { 1 } else { whole as u16 }
+    (drawn_in(u, v) / 3600000).max(1) as u16
 }

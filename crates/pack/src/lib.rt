@@ -2,14 +2,14 @@
 #![tactic(auto)]
 
 ghost use Rattle.std.specs.Prelude.{◌≡◌};
-ghost use Rattle.pack.specs.Sound.{exactly, settings_sound, tank_sound, toward_sound, run_sound, timers_sound, error_sound, sound_of};
+ghost use Rattle.pack.specs.Sound.{settings_sound, tank_sound, toward_sound, run_sound, timers_sound, error_sound, sound_of};
 ghost use Rattle.pack.specs.Kept.{latest_of};
 ghost use Rattle.pack.specs.Discharge.{discharge_ends};
 
 use recent::Recent;
 
 // What set-up fixes; plain: broadcasts go without PEC.
-#[derive(Clone, Copy)]
+#[derive(Clone, Copy, Default)]
 pub struct Settings {
     pub DesignCapacity: u16,
     pub DesignVoltage: u16,
@@ -24,7 +24,7 @@ pub struct Settings {
 }
 
 // What the host wrote.
-#[derive(Clone, Copy)]
+#[derive(Clone, Copy, Default)]
 pub struct Host {
     pub ManufacturerAccess: u16,
     pub RemainingCapacityAlarm: u16,
@@ -36,7 +36,7 @@ pub struct Host {
 }
 
 // What was sampled last; the current as a word.
-#[derive(Clone, Copy)]
+#[derive(Clone, Copy, Default)]
 pub struct Latest {
     pub voltage: u16,
     pub current: u16,
@@ -48,14 +48,14 @@ pub struct Latest {
 pub const RUN_MOST: u64 = 235926000000;
 
 // A discharge from full: whether one is open, and the charge drawn in it.
-#[derive(Clone, Copy)]
+#[derive(Clone, Copy, Default)]
 pub struct Run {
     pub opened: bool,
     pub drawn: u64,
 }
 
 // Charge, and what is drawn toward the next cycle, in mA·ms; full capacity in mAh; FullyDischarged is bit 4 of BatteryStatus.
-#[derive(Clone, Copy)]
+#[derive(Clone, Copy, Default)]
 pub struct Tank {
     pub charge: u64,
     pub full: u16,
@@ -66,7 +66,7 @@ pub struct Tank {
 }
 
 // In milliseconds.
-#[derive(Clone, Copy)]
+#[derive(Clone, Copy, Default)]
 pub struct Timers {
     pub hold: u32,
     pub alarm: u32,
@@ -107,12 +107,6 @@ pub struct Answered<S> {
     pub state: S,
 }
 
-fn agree(a: bool, b: bool) -> bool
-    ensures { result ≡ exactly a b }
-{
-    if a { b } else { !b }
-}
-
 fn settings_sound(s: Settings) -> bool
     ensures { result ≡ settings_sound s }
 {
@@ -144,7 +138,7 @@ fn timers_sound(h: Host, t: Timers) -> bool
         & (t.alarm <= 10000)
         & (t.charger <= 29999)
         & (!h.ChargerMode | (t.charger == 0))
-        & agree(t.hold == 0, !h.AlarmMode)
+        & ((t.hold == 0) == !h.AlarmMode)
 }
 
 // Only our own crates call it.
@@ -171,10 +165,9 @@ pub fn sound(s: State) -> bool
 pub fn latest_of(s: Sample) -> Latest
     ensures { result ≡ latest_of s }
 {
-    let current = words::kept(s.current);
     Latest {
         voltage: s.voltage,
-        current: current,
+        current: words::kept(s.current),
         temperature: s.temperature,
         counter: s.counter,
     }

@@ -1,43 +1,29 @@
--- The average of a sound minute is a word.
+-- The average of a sound minute is a signed 16-bit number, and its word one.
 -- Assumes nothing.
-use Rattle.std.proofs.Common.{◌≡◌, ℕ, zero, suc, ◌+◌, ◌*◌, ◌/◌, ◌<◌, ◌≤◌, Bool, true, false, cond, eqb, List, get_or, take, ℤ, pos, negsuc, ◌+ℤ◌, neg_ℤ, nat_abs, ap, le_refl, arith, w16, w32, to_z, of_z}
-use lib.IntN.{sub_ℕ}
+use Rattle.std.proofs.Common.{◌≡◌, ℕ, zero, suc, ◌*◌, ◌/◌, ◌<◌, ◌≤◌, Bool, true, false, cond, eqb, ℤ, pos, negsuc, neg_ℤ, le_refl, arith, w16, SFits, of_z}
 use lib.Signed.{quot_z}
-use Rattle.recent.proofs.Integers.{sub_lt, sub_ge, over}
+use Rattle.recent.proofs.Integers.{over}
 use Rattle.recent.proofs.Soundness.{recent_facts}
-use Rattle.recent.proofs.Totals.{can_pos, can_neg, totals_each}
-use Rattle.recent.specs.Recent.{can_give, totals_sound, recent_sound, sum_of, average_of}
+use Rattle.recent.proofs.Totals.{can_pos, can_neg, sum_given}
+use Rattle.recent.specs.Recent.{can_give, recent_sound, sum_of, average_of}
 use Rattle.recent.specs.declared.Recent.{Recent}
-use Rattle.words.proofs.Integers.{split}
 
-difference : (a b : ℕ) → nat_abs (sub_ℕ a b) ≤ a + b
-difference a b = split a b (λ h. omega (arith, ap nat_abs (sub_lt a b h))) (λ h. omega (arith, ap nat_abs (sub_ge a b h)))
+minus_fits : (m : ℕ) → m ≤ 32768 → SFits w16 (neg_ℤ (pos m))
+minus_fits zero h = record { sfits = omega arith }
+minus_fits (suc m) h = record { sfits = omega arith }
 
--- a sum's size is at most the sum of the sizes
-sum : (a b : ℤ) → nat_abs (a +ℤ b) ≤ nat_abs a + nat_abs b
-sum (pos a) (pos b) = le_refl (a + b)
-sum (pos a) (negsuc b) = difference a (suc b)
-sum (negsuc a) (pos b) = omega (arith, difference b (suc a))
-sum (negsuc a) (negsuc b) = omega arith
+-- what n currents can give, over n
+pub mean_fits : (n : ℕ) (z : ℤ) → can_give n z ≡ true → SFits w16 (quot_z z (pos n))
+mean_fits n (pos a) h = record { sfits = omega (arith, over 32767 a n (can_pos n a h)) }
+mean_fits n (negsuc a) h = minus_fits (suc a / n) (over 32768 (suc a) n (can_neg n a h))
 
-given : (z : ℤ) → can_give 1000 z ≡ true → nat_abs z ≤ 32768000
-given (pos n) h = omega (arith, can_pos 1000 n h)
-given (negsuc n) h = can_neg 1000 n h
+word : (z : ℤ) → SFits w16 z → of_z w16 z < 65536
+word (pos n) h = omega (arith, h.sfits)
+word (negsuc n) h = omega arith
 
-sums : (totals : List ℕ) (n m : ℕ) → n ≤ m → totals_sound (take m totals) ≡ true → nat_abs (sum_of totals n) ≤ 32768 * (1000 * n)
-unfolding sum_of
-sums totals zero m l h = omega arith
-sums totals (suc n) m l h =
-    let t = to_z w32 (get_or totals n 0) in
-    omega (arith, sum (sum_of totals n) t, sums totals n m (omega arith) h, given t (totals_each totals m n (omega arith) h))
-
-minus_word : (m : ℕ) → of_z w16 (neg_ℤ (pos m)) < 65536
-minus_word zero = omega arith
-minus_word (suc m) = omega arith
-
-quotient : (z : ℤ) (n : ℕ) → nat_abs z ≤ 32768 * n → of_z w16 (quot_z z (pos n)) < 65536
-quotient (pos a) n h = omega (arith, over 32768 a n h)
-quotient (negsuc a) n h = minus_word (suc a / n)
+-- the sum of the totals that are kept
+pub kept_given : (r : Recent) → recent_sound r ≡ true → can_give (1000 * r.count) (sum_of r.totals r.count) ≡ true
+kept_given r h = sum_given r.totals r.count r.count (le_refl r.count) (recent_facts r h).totals
 
 -- 0B is below 65,536
 pub average_word : (r : Recent) (latest : ℕ) → recent_sound r ≡ true → latest < 65536 → average_of r latest < 65536
@@ -46,5 +32,4 @@ average_word r latest h l = go (eqb r.count 0)
   where
     go : (b : Bool) → cond b latest (of_z w16 (quot_z (sum_of r.totals r.count) (pos (1000 * r.count)))) < 65536
     go true = l
-    go false =
-        quotient (sum_of r.totals r.count) (1000 * r.count) (sums r.totals r.count r.count (le_refl r.count) (recent_facts r h).totals)
+    go false = word _ (mean_fits (1000 * r.count) (sum_of r.totals r.count) (kept_given r h))

@@ -1,12 +1,12 @@
--- What currents can give in so many milliseconds: as facts, of sums, as words, and as the code tests it, 32,768 higher for each of them and wrapped.
+-- What currents can give in so many milliseconds: as facts, of sums, and as words.
 -- Assumes nothing.
-use Rattle.std.proofs.Common.{◌≡◌, ℕ, zero, suc, ◌+◌, ◌-◌, ◌*◌, ◌%◌, ◌^◌, ◌<◌, ◌≤◌, true, ◌&&◌, leb, List, [], ◌∷◌, ◌++◌, length, get_or, take, ℤ, pos, negsuc, ◌+ℤ◌, neg_ℤ, sym, refl, ap, ◌∙◌, add-one, arith, take-suc, w32, SFits, le-leb, leb-true}
+use Rattle.std.proofs.Common.{◌≡◌, ℕ, zero, suc, ◌+◌, ◌-◌, ◌*◌, ◌<◌, ◌≤◌, true, ◌&&◌, leb, List, [], ◌∷◌, ◌++◌, get_or, take, ℤ, pos, negsuc, ◌+ℤ◌, neg_ℤ, sym, refl, ap, ◌∙◌, arith, get_or-take, w32, to_z, SFits, le-leb, leb-true}
 use mathlib.Core.Bool.{and-true, and_assoc, and-eq-true_iff}
 use borrow.Author.Tests.{lt-leb}
 use lib.IntN.{sub_ℕ}
 use lib.Signed.{le_z}
-use Rattle.recent.specs.Recent.{can_give, total_sound, totals_sound}
-use Rattle.recent.proofs.Integers.{sub_lt, sub_ge, low32, high32}
+use Rattle.recent.specs.Recent.{can_give, total_sound, totals_sound, sum_of}
+use Rattle.recent.proofs.Integers.{sub_lt, sub_ge}
 use Rattle.words.proofs.Integers.{split}
 
 -- a bound below, of a number of 0 or above and of one below 0
@@ -52,8 +52,13 @@ sum_can m n (negsuc a) (pos b) h k =
     sub_can (m + n) b (suc a) (omega (arith, can_pos n b k)) (omega (arith, can_neg m a h))
 sum_can m n (negsuc a) (negsuc b) h k = neg_can (m + n) (suc (a + b)) (omega (arith, can_neg m a h, can_neg n b k))
 
--- in a second a signed 32-bit number
-pub can_fits : (ms : ℕ) (z : ℤ) → ms ≤ 1000 → can_give ms z ≡ true → SFits w32 z
+-- in more milliseconds too
+pub can_longer : (m n : ℕ) (z : ℤ) → m ≤ n → can_give m z ≡ true → can_give n z ≡ true
+can_longer m n (pos a) k h = pos_can n a (omega (arith, can_pos m a h))
+can_longer m n (negsuc a) k h = neg_can n a (omega (arith, can_neg m a h))
+
+-- in a minute a signed 32-bit number
+pub can_fits : (ms : ℕ) (z : ℤ) → ms ≤ 60000 → can_give ms z ≡ true → SFits w32 z
 can_fits ms (pos n) h k = record { sfits = omega (arith, can_pos ms n k) }
 can_fits ms (negsuc n) h k = record { sfits = omega (arith, can_neg ms n k) }
 
@@ -61,19 +66,6 @@ pub same_test : (a b c d : ℕ) → (a ≤ b → c ≤ d) → (c ≤ d → a ≤
 same_test a b c d f g =
     split b a (λ h. lt-leb a b h ∙ sym (split d c (λ k. lt-leb c d k) (λ k. absurd (omega (arith, g k)))))
     (λ h. le-leb a b h ∙ sym (le-leb c d (f h)))
-
-pub total_is : (ms t : ℕ) → ms ≤ 1000 → t < 2 ^ 32 → leb ((t + 32768 * ms) % 2 ^ 32) (65535 * ms) ≡ total_sound ms t
-total_is ms t hm ht =
-    split t 2147483648
-    (λ h.
-    same_test ((t + 32768 * ms) % 2 ^ 32) (65535 * ms) t (32767 * ms) (λ k. omega arith) (λ k. omega arith)
-    ∙ sym (ap (can_give ms) (low32 t h) ∙ give_pos ms t))
-    (λ h.
-    same_test ((t + 32768 * ms) % 2 ^ 32) (65535 * ms) (suc (4294967296 - suc t)) (32768 * ms) (λ k. omega arith) (λ k. omega arith)
-    ∙ sym (ap (can_give ms) (high32 t h) ∙ give_neg ms (4294967296 - suc t)))
-
-pub total_true : (ms t : ℕ) → ms ≤ 1000 → t < 2 ^ 32 → total_sound ms t ≡ true → (t + 32768 * ms) % 2 ^ 32 ≤ 65535 * ms
-total_true ms t hm ht h = leb-true _ _ (total_is ms t hm ht ∙ h)
 
 -- ---- totals one after the other
 
@@ -83,11 +75,6 @@ totals_append [] b = refl
 totals_append (t ∷ a) b =
     ap (λ x. total_sound 1000 t && x) (totals_append a b) ∙ sym (and_assoc (total_sound 1000 t) (totals_sound a) (totals_sound b))
 
-pub totals_next : (l : List ℕ) (i : ℕ) → i < length l → totals_sound (take i l) && total_sound 1000 (get_or l i 0) ≡ totals_sound (take (i + 1) l)
-unfolding totals_sound
-totals_next l i h =
-    ap (λ b. totals_sound (take i l) && b) (sym (and-true (total_sound 1000 (get_or l i 0)))) ∙ sym (totals_append (take i l) (get_or l i 0 ∷ [])) ∙ ap totals_sound (sym (take-suc l i 0 h)) ∙ ap (λ n. totals_sound (take n l)) (sym (add-one i))
-
 -- where all are, each is
 pub totals_each : (l : List ℕ) (n i : ℕ) → i < n → totals_sound (take n l) ≡ true → total_sound 1000 (get_or l i 0) ≡ true
 unfolding totals_sound
@@ -95,3 +82,18 @@ totals_each l zero i k h = absurd (omega arith)
 totals_each [] (suc n) i k h = refl
 totals_each (t ∷ l) (suc n) zero k h = ((and-eq-true_iff _ _).0 h).0
 totals_each (t ∷ l) (suc n) (suc i) k h = totals_each l n i (omega arith) ((and-eq-true_iff (total_sound 1000 t) (totals_sound (take n l))).0 h).1
+
+-- the first n of sound totals sum to what so many seconds can give
+pub sum_given : (l : List ℕ) (n m : ℕ) → n ≤ m → totals_sound (take m l) ≡ true → can_give (1000 * n) (sum_of l n) ≡ true
+unfolding sum_of
+sum_given l zero m k h = refl
+sum_given l (suc n) m k h =
+    let e : 1000 * n + 1000 ≡ 1000 * suc n = omega arith in
+    ap (λ ms. can_give ms (sum_of l (suc n))) (sym e)
+    ∙ sum_can (1000 * n) 1000 (sum_of l n) (to_z w32 (get_or l n 0)) (sum_given l n m (omega arith) h) (totals_each l m n (omega arith) h)
+
+-- the sum of the first n, of a list cut at m
+pub sum_cut : (l : List ℕ) (n m : ℕ) → n ≤ m → sum_of (take m l) n ≡ sum_of l n
+unfolding sum_of
+sum_cut l zero m k = refl
+sum_cut l (suc n) m k = let h : n < m = omega arith in rw get_or-take (ap (λ (z : ℤ). z +ℤ to_z w32 (get_or l n 0)) (sum_cut l n m (omega arith)))

@@ -1,21 +1,20 @@
 -- Register 0B of what is kept is the rule's average of all milliseconds.
 -- Assumes nothing.
-use Prim.Native.Nat.{ℕ, zero, suc, ◌*◌, ◌/◌, ◌≤◌}
-use mathlib.Core.Bool.{true, cond}
+use Prim.Native.Nat.{ℕ, zero, suc, ◌*◌, ◌≤◌}
+use mathlib.Core.Bool.{cond}
 use mathlib.Core.List.{List, [], ◌∷◌, ◌++◌, map, reverse, map-append, reverse-cons}
 use mathlib.Core.Path.{◌≡◌, refl, ap, ◌∙◌, sym, subst⁻¹}
 use native.Mathlib.Omega.{arith}
 use borrow.Author.Tests.{ne_eqb}
 use lib.Dec.{eqb}
-use lib.IntN.{ℤ, pos, negsuc, neg_ℤ, ◌+ℤ◌, +ℤ_comm, +ℤ_idr}
+use lib.IntN.{ℤ, pos, ◌+ℤ◌, +ℤ_comm, +ℤ_idr}
 use lib.ListN.{length, take, drop, get_or, replicate, length-append, length-take, length-drop, length-replicate}
 use lib.Seq.{take-suc, length-take-le}
 use lib.Signed.{quot_z}
 use mir.Syntax.{w16, w32}
 use mir.Val.{SFits, to_z, of_z}
-use Rattle.recent.proofs.Integers.{over}
-use Rattle.recent.proofs.Totals.{can_pos, can_neg}
-use Rattle.recent.specs.Recent.{can_give, sum_of, average_of}
+use Rattle.recent.proofs.Bound.{mean_fits}
+use Rattle.recent.specs.Recent.{sum_of, average_of}
 use Rattle.recent_laws.specs.Kept.{total_word, recent_of}
 use Rattle.recent_laws.specs.Minute.{cut, seconds, last_sixty, in_one, total_of, mean_of, average_of_all}
 use Rattle.recent_laws.specs.Promises.{Currents, KeptAverage, AverageFits}
@@ -107,15 +106,6 @@ kept_average l latest h =
     ∙ ap (λ s. of_z w16 (mean_of (in_one s) latest)) (sym (last_cut l))
 
 -- ---- it fits
-
-minus_fits : (m : ℕ) → m ≤ 32768 → SFits w16 (neg_ℤ (pos m))
-minus_fits zero h = record { sfits = omega arith }
-minus_fits (suc m) h = record { sfits = omega arith }
-
--- a number that n currents can give, over n
-mean_fits : (n : ℕ) (z : ℤ) → can_give n z ≡ true → SFits w16 (quot_z z (pos n))
-mean_fits n (pos a) h = record { sfits = omega (arith, over 32767 a n (can_pos n a h)) }
-mean_fits n (negsuc a) h = minus_fits (suc a / n) (over 32768 (suc a) n (can_neg n a h))
 
 by_mean : (k : List ℤ) (latest : ℤ) → Currents k → SFits w16 latest → SFits w16 (mean_of k latest)
 unfolding mean_of

@@ -1,6 +1,6 @@
 -- Totals of currents: of two parts, of one current for long, what they can be, and how a kept total goes on.
 -- Assumes nothing.
-use Prim.Native.Nat.{ℕ, zero, suc, ◌+◌, ◌*◌, ◌≤◌}
+use Prim.Native.Nat.{ℕ, zero, suc, ◌+◌, ◌≤◌}
 use mathlib.Core.Bool.{true}
 use mathlib.Core.List.{List, [], ◌∷◌, ◌++◌}
 use mathlib.Core.Path.{◌≡◌, refl, ap, ◌∙◌, sym, subst}
@@ -51,7 +51,7 @@ total_can (c ∷ l) (f, h) =
 
 -- a kept total stands for what it is the total of
 pub kept_total : (l : List ℤ) → Currents l → length l ≤ 1000 → to_z w32 (total_word l) ≡ total_of l
-kept_total l h n = to_z-of_z (can_fits (length l) (total_of l) n (total_can l h))
+kept_total l h n = to_z-of_z (can_fits (length l) (total_of l) (omega arith) (total_can l h))
 
 -- it goes on by a current
 pub flows : (g : List ℤ) (c : ℤ) (m : ℕ) → Currents g → SFits w16 c → length g ≤ 1000

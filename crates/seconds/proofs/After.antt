@@ -4,7 +4,7 @@ use Rattle.std.proofs.Common.{◌≡◌, ℕ, zero, suc, ◌+◌, ◌-◌, ◌/�
 use mathlib.Core.Bool.{and-eq-true_iff}
 use Rattle.recent.specs.Fits.{Below, RecentFit}
 use Rattle.seconds.specs.Promises.{AfterFits, AfterSound}
-use Rattle.recent.specs.Recent.{total_sound, totals_sound, recent_sound, RecentFacts}
+use Rattle.recent.specs.Recent.{total_sound, totals_sound, RecentFacts}
 use Rattle.seconds.specs.Seconds.{flowed_of, lacking, beyond, recent_after}
 use Rattle.recent.specs.declared.Recent.{Recent}
 use Rattle.seconds.proofs.Flow.{flowed_sound, flowed_small}

@@ -1,18 +1,11 @@
 -- What stands where, once n whole seconds and the one just full stand before the old ones.
 -- Assumes nothing.
-use Rattle.std.proofs.Common.{◌≡◌, ℕ, suc, ◌+◌, ◌-◌, ◌<◌, ◌≤◌, List, [], ◌∷◌, ◌++◌, length, get_or, take, set, replicate, sym, ap, ◌∙◌, add-one, arith, length-append, take-suc, take-suc-set, take_at, get_or-append-add}
+use borrow.Rule.Slice.PartMut.{put_mid}
+use mathlib.Core.List.{append-nil, append_assoc}
+use Rattle.std.proofs.Common.{drop, length-set, ◌≡◌, ℕ, ◌+◌, ◌-◌, ◌<◌, ◌≤◌, List, [], ◌∷◌, ◌++◌, length, take, set, replicate, sym, ap, ◌∙◌, add-one, arith, length-append, take-suc-set, take_at}
 use lib.ListN.{length-replicate, replicate-append-replicate}
-use lib.Seq.{get_or_at, take-append-le}
-
--- one more place is as it is to be
-pub turn : (totals new : List ℕ) (i v : ℕ) → i < length totals → i < length new → v ≡ get_or new i 0 → take i totals ≡ take i new
-    → take (i + 1) (set totals i v) ≡ take (i + 1) new
-turn totals new i v a b d e =
-    ap (λ j. take j (set totals i v)) (add-one i) ∙ take-suc-set totals i v a
-    ∙ ap (λ l. l ++ (v ∷ [])) e
-    ∙ ap (λ x. take i new ++ (x ∷ [])) d
-    ∙ sym (take-suc new i 0 b)
-    ∙ ap (λ j. take j new) (sym (add-one i))
+use lib.ListN.{drop_of_length-le}
+use lib.Seq.{drop-drop, drop_at, take-add, take-append-le}
 
 -- a list of one number begins with fewer of it
 fewer : (m size a : ℕ) → m ≤ size → take m (replicate size a) ≡ replicate m a
@@ -26,23 +19,41 @@ module _ (n whole full : ℕ) (old : List ℕ) where
   abbrev pub laid : List ℕ
   laid = replicate n whole ++ (full ∷ old)
 
-  pub long : (i : ℕ) → length old ≡ 60 → i < 60 → i < length laid
-  long i a h = omega (arith, length-append (replicate n whole) (full ∷ old))
-
   -- all places are whole seconds
   pub filled : (size : ℕ) → size ≤ n → replicate size whole ≡ take size laid
   filled size h =
       sym (take-append-le size (replicate n whole) (full ∷ old) (omega (arith, length-replicate n whole)) ∙ fewer size n whole h)
 
-  -- the full one stands at place n
-  pub placed : (size : ℕ) → n < size → length old ≡ 60 → n < 60 → take (n + 1) (set (replicate size whole) n full) ≡ take (n + 1) laid
-  placed size h a b =
-      turn (replicate size whole) laid n full (omega (arith, length-replicate size whole)) (long n a b)
-      (sym (get_or_at (replicate n whole) full old 0 n (length-replicate n whole)))
-      (fewer n size whole (omega arith) ∙ sym (take_at (replicate n whole) (full ∷ old) n (length-replicate n whole)))
+  -- the full one stands at place n, after whole seconds
+  front : List ℕ
+  front = replicate n whole ++ (full ∷ [])
 
-  -- an old one stands n + 1 places later
-  pub later : (i j : ℕ) → i ≡ n + (j + 1) → get_or old j 0 ≡ get_or laid i 0
-  later i j h =
-      let e : length (replicate n whole) + suc j ≡ i = omega (arith, length-replicate n whole) in
-      sym (ap (λ k. get_or laid k 0) (sym e) ∙ get_or-append-add (replicate n whole) (full ∷ old) (suc j) 0)
+  front_length : length front ≡ n + 1
+  unfolding front
+  front_length = length-append (replicate n whole) (full ∷ []) ∙ omega (arith, length-replicate n whole)
+
+  laid_is : laid ≡ front ++ old
+  unfolding front
+  laid_is = sym (append_assoc (replicate n whole) (full ∷ []) old)
+
+  placed : n < 60 → take (n + 1) (set (replicate 60 whole) n full) ≡ front
+  unfolding front
+  placed h =
+      ap (λ j. take j (set (replicate 60 whole) n full)) (add-one n)
+      ∙ take-suc-set (replicate 60 whole) n full (omega (arith, length-replicate 60 whole))
+      ∙ ap (λ l. l ++ (full ∷ [])) (fewer n 60 whole (omega arith))
+
+  -- and the old ones follow, as many as there is room for
+  pub followed : n < 60 → (part : List ℕ) → part ≡ take (59 - n) old
+      → put_mid (n + 1) (60 - (n + 1)) (set (replicate 60 whole) n full) part ≡ take 60 laid
+  followed h part e =
+      let room = set (replicate 60 whole) n full in
+      let size : length room ≡ 60 = length-set (replicate 60 whole) n full ∙ length-replicate 60 whole in
+      let none : drop (60 - (n + 1)) (drop (n + 1) room) ≡ [] = drop-drop (60 - (n + 1)) (n + 1) room ∙ drop_of_length-le room (omega arith) in
+      let sixty : 60 ≡ n + 1 + (59 - n) = omega arith in
+      ap (λ x. take (n + 1) room ++ (part ++ x)) none
+      ∙ ap (λ x. take (n + 1) room ++ x) (append-nil part ∙ e)
+      ∙ ap (λ x. x ++ take (59 - n) old) (placed h)
+      ∙ sym (ap (take 60) laid_is ∙ ap (λ k. take k (front ++ old)) sixty ∙ take-add (n + 1) (59 - n) (front ++ old)
+      ∙ ap (λ x. x ++ take (59 - n) (drop (n + 1) (front ++ old))) (take_at front old (n + 1) front_length)
+      ∙ ap (λ x. front ++ take (59 - n) x) (drop_at front old (n + 1) front_length))

@@ -2,7 +2,7 @@
 #![tactic(auto)]
 
 ghost use Rattle.std.specs.Prelude.{◌≡◌, ◌<◌, ◌≤◌};
-ghost use Rattle.start.specs.SetUp.{set_up_of, set_up_refused, pack_of, settings_of, host_of, tank_of, zero_settings, zero_host, zero_latest, zero_tank, zero_state};
+ghost use Rattle.start.specs.SetUp.{set_up_of, set_up_refused, pack_of, settings_of, host_of, tank_of, zero_state};
 
 use pack::{Answered, Host, Latest, Pack, Run, Sample, Settings, State, Tank, Timers};
 
@@ -24,90 +24,20 @@ pub struct Setup {
     pub plain: bool,
 }
 
-fn zero_settings() -> Settings
-    ensures { result ≡ zero_settings }
-{
-    Settings {
-        DesignCapacity: 0,
-        DesignVoltage: 0,
-        MaxError: 0,
-        ManufactureDate: 0,
-        SerialNumber: 0,
-        ChargingCurrent: 0,
-        ChargingVoltage: 0,
-        TemperatureLimit: 0,
-        DischargeLimit: 0,
-        plain: false,
-    }
-}
-
-fn zero_host() -> Host
-    ensures { result ≡ zero_host }
-{
-    Host {
-        ManufacturerAccess: 0,
-        RemainingCapacityAlarm: 0,
-        RemainingTimeAlarm: 0,
-        AtRate: 0,
-        AlarmMode: false,
-        ChargerMode: false,
-        CapacityMode: false,
-    }
-}
-
-fn zero_latest() -> Latest
-    ensures { result ≡ zero_latest }
-{
-    Latest {
-        voltage: 0,
-        current: 0,
-        temperature: 0,
-        counter: 0,
-    }
-}
-
-fn zero_tank() -> Tank
-    ensures { result ≡ zero_tank }
-{
-    let run = Run {
-        opened: false,
-        drawn: 0,
-    };
-    Tank {
-        charge: 0,
-        full: 0,
-        CycleCount: 0,
-        FullyDischarged: false,
-        toward: 0,
-        run: run,
-    }
-}
-
 // The all-zero state, which isn't sound.
 pub fn zero() -> State
     ensures { result ≡ zero_state }
 {
-    let settings = zero_settings();
-    let host = zero_host();
-    let latest = zero_latest();
-    let recent = recent::zero();
-    let tank = zero_tank();
-    let timers = Timers {
-        hold: 0,
-        alarm: 0,
-        charger: 0,
-    };
-    let pack = Pack {
-        settings: settings,
-        host: host,
-        latest: latest,
-        recent: recent,
-        tank: tank,
-        timers: timers,
-    };
     State {
         error: 0,
-        pack: pack,
+        pack: Pack {
+            settings: Settings::default(),
+            host: Host::default(),
+            latest: Latest::default(),
+            recent: recent::zero(),
+            tank: Tank::default(),
+            timers: Timers::default(),
+        },
     }
 }
 
@@ -139,13 +69,9 @@ fn host_of(u: Setup) -> Host
     ensures { result ≡ host_of u }
 {
     Host {
-        ManufacturerAccess: 0,
         RemainingCapacityAlarm: u.DesignCapacity / 10,
         RemainingTimeAlarm: 10,
-        AtRate: 0,
-        AlarmMode: false,
-        ChargerMode: false,
-        CapacityMode: false,
+        ..Host::default()
     }
 }
 
@@ -154,19 +80,16 @@ fn tank_of(u: Setup) -> Tank
     ensures { result ≡ tank_of u }
 {
     let charge = capacity::milliamp_ms(u.remaining);
-    let full = u.full;
-    let empty = capacity::fully_discharged(false, charge, full);
-    let run = Run {
-        opened: u.remaining == full,
-        drawn: 0,
-    };
     Tank {
-        charge: charge,
-        full: full,
+        charge,
+        full: u.full,
         CycleCount: u.CycleCount,
-        FullyDischarged: empty,
+        FullyDischarged: capacity::fully_discharged(false, charge, u.full),
         toward: 0,
-        run: run,
+        run: Run {
+            opened: u.remaining == u.full,
+            drawn: 0,
+        },
     }
 }
 
@@ -174,23 +97,17 @@ fn pack_of(u: Setup, first: Sample) -> Pack
     requires { (0 < u.full) × (u.remaining ≤ u.full) }
     ensures { result ≡ pack_of u first }
 {
-    let settings = settings_of(u);
-    let host = host_of(u);
-    let latest = pack::latest_of(first);
-    let recent = recent::zero();
-    let tank = tank_of(u);
-    let timers = Timers {
-        hold: 0,
-        alarm: 10000,
-        charger: 0,
-    };
     Pack {
-        settings: settings,
-        host: host,
-        latest: latest,
-        recent: recent,
-        tank: tank,
-        timers: timers,
+        settings: settings_of(u),
+        host: host_of(u),
+        latest: pack::latest_of(first),
+        recent: recent::zero(),
+        tank: tank_of(u),
+        timers: Timers {
+            hold: 0,
+            alarm: 10000,
+            charger: 0,
+        },
     }
 }
 
@@ -199,19 +116,16 @@ pub fn set_up(u: Setup, first: Sample) -> Answered<State>
     ensures { result ≡ set_up_of u first }
 {
     if refused(u) {
-        let none = zero();
         return Answered {
             answer: 11,
-            state: none,
+            state: zero(),
         };
     }
-    let pack = pack_of(u, first);
-    let state = State {
-        error: 0,
-        pack: pack,
-    };
     Answered {
         answer: 0,
-        state: state,
+        state: State {
+            error: 0,
+            pack: pack_of(u, first),
+        },
     }
 }

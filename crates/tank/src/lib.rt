@@ -23,24 +23,7 @@ pub fn flowed(current: u16, elapsed: u32) -> u64
     ensures is { result ≡ size_of current * elapsed }
     ensures small { result ≤ 32768 * 4294967295 }
 {
-    capacity::product(elapsed as u64, words::size(current) as u16)
-}
-
-fn less(charge: u64, flow: u64) -> u64
-    ensures { result ≡ charge - flow }
-{
-    if flow < charge { charge - flow } else { 0 }
-}
-
-fn more(charge: u64, flow: u64, top: u64) -> u64
-    requires { charge ≤ top }
-    ensures { result ≡ min top (charge + flow) }
-{
-    if flow < top - charge {
-        charge + flow
-    } else {
-        top
-    }
+    capacity::product(u64::from(elapsed), words::size(current) as u16)
 }
 
 // Charge after what flows, between 0 and the top.
@@ -49,9 +32,10 @@ pub fn moved(charge: u64, top: u64, falls: bool, flow: u64) -> u64
     ensures { result ≡ cond falls (charge - flow) (min top (charge + flow)) }
 {
     if falls {
-        return less(charge, flow);
+        charge.saturating_sub(flow)
+    } else {
+        charge.saturating_add(flow).min(top)
     }
-    more(charge, flow, top)
 }
 
 // A close sets full to what was learned, and charge to 0.
@@ -66,10 +50,7 @@ fn left(closed: bool, u: Run, v: Seen, charge: u64, full: u16) -> Level
             full: learning::full_learned(u, v),
         };
     }
-    Level {
-        charge: charge,
-        full: full,
-    }
+    Level { charge, full }
 }
 
 // In the rule's order: charge; charge drawn and cycles; the run and its close; bit 4.
@@ -87,7 +68,7 @@ pub fn sampled(s: Settings, t: Tank, x: Latest, elapsed: u32) -> Tank
         filled: charge == top,
         rises: words::rises(x.current),
         ends: pack::discharge_ends(x.voltage, x.current, s.DischargeLimit),
-        drawn: drawn,
+        drawn,
     };
     let closed = learning::run_closes(t.run, seen);
     let level = left(closed, t.run, seen, charge, t.full);
@@ -99,6 +80,6 @@ pub fn sampled(s: Settings, t: Tank, x: Latest, elapsed: u32) -> Tank
         CycleCount: cycles.count,
         FullyDischarged: empty,
         toward: cycles.toward,
-        run: run,
+        run,
     }
 }

@@ -1,6 +1,5 @@
 -- `pack::discharge_ends` meets its contract.
 -- Assumes nothing.
-use borrow.Author.Rules.{rules}
 use Rattle.pack.proofs.discharge_ends.Goals as goal
 
 pub returns : goal.returns

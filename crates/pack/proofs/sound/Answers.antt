@@ -1,7 +1,6 @@
 -- `pack::sound` meets its contract: each part by its own test.
 -- Assumes nothing.
 use Rattle.pack.specs.Sound.{pack_sound, sound_of}
-use borrow.Author.Rules.{rules}
 use Rattle.pack.proofs.sound.Goals as goal
 
 pub returns : goal.returns

@@ -1,6 +1,5 @@
 -- `pack::tank_sound` meets its contract: the charge is held to full in mA·ms.
 -- Assumes nothing.
-use borrow.Author.Rules.{rules}
 use Rattle.pack.specs.Sound.{tank_sound}
 use Rattle.pack.proofs.tank_sound.Goals as goal
 

@@ -1,6 +1,5 @@
 -- `pack::toward_sound` meets its contract: less than one design capacity in mA·ms.
 -- Assumes nothing.
-use borrow.Author.Rules.{rules}
 use Rattle.pack.specs.Sound.{toward_sound}
 use Rattle.pack.proofs.toward_sound.Goals as goal
 

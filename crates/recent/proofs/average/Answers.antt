@@ -1,29 +1,56 @@
 -- `recent::average` meets its contract: the latest, or the kept totals summed and divided by their length.
 -- Assumes nothing.
-use Rattle.std.proofs.Common.{ℕ, ℤ, pos, ◌∙◌, ap₂, arith, w16, of_z, rules, eq-eqb, ne_eqb}
-use lib.Signed.{quot_z}
-use Rattle.recent.specs.Recent.{average_of}
+use Rattle.std.proofs.Common.{◌≡◌, ℕ, ◌*◌, ◌<◌, ◌≤◌, length, length-take-le, take, ℤ, pos, ◌*ℤ◌, ap, ◌∙◌, subst, sym, le_refl, arith, to_z-of_z, w16, w32, SFits, to_z, of_z, eq-eqb, ne_eqb}
+use Rattle.std.proofs.lemmas.Int.{ints, to_z_pos, quot_is, quot_fits}
+use lib.Signed.{quot_z, ◌<ℤ◌}
+use Rattle.recent.specs.Recent.{sum_of, average_of}
+use Rattle.recent.proofs.Bound.{kept_given, mean_fits}
 use Rattle.recent.proofs.Soundness.{recent_facts}
+use Rattle.recent.proofs.Totals.{sum_cut}
 use Rattle.recent.proofs.average.Goals as goal
+use Rattle.recent.proofs.average.Goals.{After-summed-sum}
 
-pub returns-then-count-eq0 : goal.returns-then-count-eq0
+-- the quotient as the code makes it
+divided : (z : ℤ) (n : ℕ) → SFits w32 z → 0 < n → n ≤ 60
+    → to_z w32 (of_z w32 (quot_z (to_z w32 (of_z w32 z)) (to_z w32 (of_z w32 (pos 1000 *ℤ to_z w32 n))))) ≡ quot_z z (pos (1000 * n))
+divided z n f p h =
+    let few : SFits w32 (pos (1000 * n)) = record { sfits = omega arith } in
+    let some : pos 0 <ℤ pos (1000 * n) = omega (arith, ints) in
+    ap (λ (y : ℤ). to_z w32 (of_z w32 (quot_z (to_z w32 (of_z w32 z)) (to_z w32 (of_z w32 (pos 1000 *ℤ y)))))) (to_z_pos w32 n (omega arith))
+    ∙ quot_is w32 z (pos (1000 * n)) f few (quot_fits w32 z (pos (1000 * n)) f some)
+
+-- the mean of what is kept, of its sum as the code cuts it
+mean : (c : goal.After-summed-sum)
+    → to_z w32 (of_z w32 (quot_z (to_z w32 (of_z w32 c.summed-sum.result)) (to_z w32 (of_z w32 (pos 1000 *ℤ to_z w32 c.args.r.count)))))
+    ≡ quot_z (sum_of c.args.r.totals c.args.r.count) (pos (1000 * c.args.r.count))
+mean c =
+    let r = c.args.r in
+    let f = recent_facts r c.requires in
+    let size : length (take r.count r.totals) ≡ r.count = length-take-le r.count r.totals (omega arith) in
+    let e : c.summed-sum.result ≡ sum_of r.totals r.count =
+    c.summed-sum.ensures ∙ ap (sum_of (take r.count r.totals)) size ∙ sum_cut r.totals r.count r.count (le_refl r.count) in
+    divided c.summed-sum.result r.count (record { sfits = c.summed-sum.type_inv }) (omega (arith, c.if-r-eq0.false)) f.most
+    ∙ ap (λ (z : ℤ). quot_z z (pos (1000 * r.count))) e
+
+fits : (c : goal.After-summed-sum) → SFits w16 (quot_z (sum_of c.args.r.totals c.args.r.count) (pos (1000 * c.args.r.count)))
+fits c = mean_fits (1000 * c.args.r.count) (sum_of c.args.r.totals c.args.r.count) (kept_given c.args.r c.requires)
+
+pub returns-then-r-eq0 : goal.returns-then-r-eq0
 unfolding average_of
-returns-then-count-eq0 c = rw (eq-eqb _ _ c.if-count-eq0.true)
+returns-then-r-eq0 c = rw (eq-eqb _ _ c.if-r-eq0.true)
 
-pub summed-s-requires : goal.summed-s-requires
-summed-s-requires c = let f = recent_facts c.args.r c.requires in (f.most, f.totals)
+pub shared_ref_as_front-summed : goal.shared_ref_as_front-summed
+shared_ref_as_front-summed c = (recent_facts c.args.r c.requires).most
 
-pub overflow_cast-count : goal.overflow_cast-count
-overflow_cast-count c = let f = recent_facts c.args.r c.requires in search rules
+pub summed-sum-requires-clause-sound : goal.summed-sum-requires-clause-sound
+summed-sum-requires-clause-sound c = (recent_facts c.args.r c.requires).totals
 
-pub divided-requires : goal.divided-requires
-divided-requires c =
-    let f = recent_facts c.args.r c.requires in
-    (omega (arith, c.if-count-eq0.false), omega arith, omega arith)
+pub overflow_cast-mean : goal.overflow_cast-mean
+overflow_cast-mean c = let p = (goal.at.overflow_cast-mean c).After-summed-sum in subst (SFits w16) (sym (mean p)) (fits p)
 
 pub returns : goal.returns
 unfolding average_of
 returns c =
-    rw (ne_eqb _ _ c.if-count-eq0.false)
-    (c.divided.ensures
-    ∙ ap₂ (λ (z : ℤ) (n : ℕ). of_z w16 (quot_z z (pos n))) c.summed-s.ensures.is c.product16.ensures)
+    let p = (goal.at.returns c).After-summed-sum in
+    rw (ne_eqb _ _ c.if-r-eq0.false)
+    (c.kept.ensures ∙ ap (λ (z : ℤ). of_z w16 (to_z w16 (of_z w16 z))) (mean p) ∙ ap (of_z w16) (to_z-of_z (fits p)))

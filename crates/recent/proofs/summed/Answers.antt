@@ -1,36 +1,34 @@
--- `recent::summed` meets its contract. The loop's invariant: the sum of the first i totals, each side at most 32,768,000 for each.
--- The measure is what is left of the count. Assumes nothing.
-use Rattle.std.proofs.Common.{◌≡◌, ℕ, ◌+◌, ◌-◌, ◌*◌, ◌≤◌, List, get_or, ℤ, ◌+ℤ◌, sym, refl, ap, ◌∙◌, le_antisymm, add-one, arith, w32, to_z, rules}
-use lib.IntN.{sub_ℕ}
-use Rattle.recent.specs.Recent.{sum_of}
-use Rattle.recent.proofs.Totals.{totals_each}
+-- `recent::summed` meets its contract: one more total is added, and sound totals of a minute fit.
+-- Assumes nothing.
+use Rattle.std.proofs.Common.{◌≡◌, ℕ, ◌+◌, ◌*◌, ◌≤◌, true, List, length, get_or, ◌+ℤ◌, sym, refl, ap, ◌∙◌, take_all, le_refl, add-one, arith, w32, SFits, to_z}
+use Rattle.std.proofs.lemmas.Int.{to_z-of_z}
+use Rattle.recent.specs.Recent.{totals_sound, sum_of}
+use Rattle.recent.proofs.Totals.{can_fits, sum_given}
 use Rattle.recent.proofs.summed.Goals as goal
 
-next : (totals : List ℕ) (i : ℕ) → sum_of totals i +ℤ to_z w32 (get_or totals i 0) ≡ sum_of totals (i + 1)
+next : (l : List ℕ) (i : ℕ) → sum_of l i +ℤ to_z w32 (get_or l i 0) ≡ sum_of l (i + 1)
 unfolding sum_of
-next totals i = sym (ap (sum_of totals) (add-one i))
+next l i = sym (ap (sum_of l) (add-one i))
 
-pub loop-i-init : goal.loop-i-init
+fits : (l : List ℕ) (n : ℕ) → n ≤ length l → length l ≤ 60 → totals_sound l ≡ true → SFits w32 (sum_of l n)
+fits l n h k s =
+    can_fits (1000 * n) (sum_of l n) (omega arith)
+    (sum_given l n (length l) h (ap totals_sound (take_all (length l) l (le_refl (length l))) ∙ s))
+
+pub overflow_add-sum : goal.overflow_add-sum
+overflow_add-sum c =
+    let k = c.loop-total in
+    let f : SFits w32 (sum_of c.args.totals.now (k.total-index + 1)) = fits _ _ (omega arith) c.requires.few c.requires.sound in
+    let e : sum_of c.args.totals.now k.total-index +ℤ to_z w32 (get_or c.args.totals.now k.total-index 0) ≡ sum_of c.args.totals.now (k.total-index + 1) = next _ _ in
+    grind (arith, to_z-of_z)
+
+pub loop-total-init : goal.loop-total-init
 unfolding sum_of
-loop-i-init c = (omega arith, refl, omega arith, omega arith)
+loop-total-init c = refl
 
-pub added-s-requires : goal.added-s-requires
-added-s-requires c =
-    (omega arith, omega arith, totals_each c.args.totals c.args.count c.loop-i.i (search rules) c.requires.1)
-
-pub loop-i-preserved : goal.loop-i-preserved
-loop-i-preserved c =
-    let k = c.loop-i in
-    let e = c.added-s.ensures in (
-      omega arith,
-      e.is ∙ ap (λ (z : ℤ). z +ℤ to_z w32 (get_or c.args.totals k.i 0)) k.invariant.1
-          ∙ next c.args.totals k.i,
-      omega arith,
-      omega arith,
-    )
-
-pub returns : goal.returns
-returns c =
-    let k = c.loop-i in
-    let e = le_antisymm k.invariant.0 c.loop-i-test.false in
-    record { is = k.invariant.1 ∙ ap (sum_of c.args.totals) e; small = (omega arith, omega arith) }
+pub loop-total-preserved : goal.loop-total-preserved
+loop-total-preserved c =
+    let k = c.loop-total in
+    let f : SFits w32 (sum_of c.args.totals.now (k.total-index + 1)) = fits _ _ (omega arith) c.requires.few c.requires.sound in
+    let e : sum_of c.args.totals.now k.total-index +ℤ to_z w32 (get_or c.args.totals.now k.total-index 0) ≡ sum_of c.args.totals.now (k.total-index + 1) = next _ _ in
+    grind (arith, to_z-of_z)

@@ -1,19 +1,17 @@
--- `seconds::flowed` meets its contract: less for a current below 0, more for any other.
+-- `seconds::flowed` meets its contract: the signed sum.
 -- Assumes nothing.
-use Rattle.std.proofs.Common.{ℕ, ◌+◌, ◌%◌, ◌^◌, sym, ap, ◌∙◌, arith, rules}
-use Rattle.seconds.proofs.Flow.{falling, rising}
+use Rattle.std.proofs.Common.{◌≡◌, pos, arith, w16, w32, SFits, to_z}
+use Rattle.std.proofs.lemmas.Int.{to_z-of_z, to_z_pos}
+use Rattle.seconds.proofs.Flow.{flow_fits, sum_fits}
 use Rattle.seconds.proofs.flowed.Goals as goal
 
-pub returns-then-falls : goal.returns-then-falls
-returns-then-falls c =
+pub returns : goal.returns
+returns c =
     let a = c.args in
-    falling a.total a.current a.ms c.size.result c.wrapping_sub_u32.result (omega arith) (omega arith)
-    (omega arith) (omega arith) (sym c.falls.ensures ∙ c.if-falls.true) c.size.ensures.is (omega arith)
-    (ap (λ (n : ℕ). (c.wrapping_sub_u32.result + n) % 2 ^ 32) (sym c.product16-flow.ensures) ∙ c.wrapping_sub_u32.ensures.value)
-
-pub returns-else-falls : goal.returns-else-falls
-returns-else-falls c =
-    let a = c.args in
-    rising a.total a.current a.ms c.size.result c.wrapping_add_u32.result (omega arith) (omega arith)
-    (sym c.falls.ensures ∙ c.if-falls.false) c.size.ensures.is (omega arith)
-    (c.wrapping_add_u32.ensures.value ∙ ap (λ (n : ℕ). (a.total + n) % 2 ^ 32) c.product16-flow.ensures)
+    let f = flow_fits a.current a.ms c.requires.short in
+    let g = sum_fits a.total a.current a.ms c.requires.short c.requires.sound in
+    let e : to_z w32 a.ms ≡ pos a.ms = to_z_pos w32 a.ms (omega arith) in
+    let h : SFits w16 c.cast_signed.result = record { sfits = c.cast_signed.type_inv } in
+    let i : SFits w32 c.from.result = record { sfits = c.from.type_inv } in
+    let j : SFits w32 c.cast_signed-2.result = record { sfits = c.cast_signed-2.type_inv } in
+    grind (arith, to_z-of_z)

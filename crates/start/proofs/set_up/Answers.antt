@@ -1,18 +1,12 @@
 -- `start::set_up` meets its contract: refused, or the pack that set-up gives.
 -- Assumes nothing.
 use Rattle.start.specs.SetUp.{set_up_of}
-use Rattle.start.proofs.Conditions.{served}
-use borrow.Author.Rules.{rules}
-use mathlib.Core.Path.{◌∙◌, sym}
 use Rattle.start.proofs.set_up.Goals as goal
 
 pub returns-then-refused : goal.returns-then-refused
 unfolding set_up_of
-returns-then-refused c = simp (c.zero-none.ensures, ← c.refused.ensures, c.if-refused.true)
-
-pub pack_of-pack-requires : goal.pack_of-pack-requires
-pack_of-pack-requires c = let f = served c.args.u (sym c.refused.ensures ∙ c.if-refused.false) in (f.full, f.remaining)
+returns-then-refused c = simp (c.zero.ensures, ← c.refused.ensures, c.if-refused.true)
 
 pub returns : goal.returns
 unfolding set_up_of
-returns c = simp (c.pack_of-pack.ensures, ← c.refused.ensures, c.if-refused.false)
+returns c = simp (c.pack_of.ensures, ← c.refused.ensures, c.if-refused.false)
