@@ -12,6 +12,7 @@ use Rattle.gauge.specs.Word.{word_of, word_answer}
 use Rattle.pack.specs.Sound.{sound_of}
 use Rattle.pack.specs.declared.Pack.{Pack}
 use Rattle.pack.specs.declared.State.{State}
+use Rattle.refusals.specs.Numbers.{answer_of}
 use Rattle.rooms.specs.Rooms.{placed}
 use Rattle.sheet.specs.Block.{block_of, block_answer}
 use Rattle.written.specs.Written.{pack_written}
@@ -30,7 +31,7 @@ pack_side s service factory =
       sound = sound_of s;
       word_answer = λ command. word_answer s command;
       word = λ command. word_of s command;
-      block_answer = λ command. block_answer service factory;
+      block_answer = λ command. answer_of (block_answer service factory);
       block = λ command. block_body (block_of service factory command);
     }
 

@@ -51,7 +51,7 @@ fn serve_word(s: State, command: u8, bytes: &[u8], room: &mut [u8]) -> Transacte
     unchanged(s, shown.answer, length)
 }
 
-// A block read: 9 where a sheet is bad.
+// A block read: refused where a sheet is bad.
 fn serve_block<'a>(
     s: State,
     service: &'a [u8],
@@ -64,9 +64,8 @@ fn serve_block<'a>(
     ensures result { result ≡ row_given s service.now factory.now bytes.now command Block }
     ensures memory { room.new ≡ placed (row_reply (pack_side s service.now factory.now) bytes.now command Block) room.old }
 {
-    let answer = sheet::block_answer(service, factory);
-    if answer != 0 {
-        return unchanged(s, answer, 0);
+    if let Err(reason) = sheet::block_answer(service, factory) {
+        return unchanged(s, u8::from(reason), 0);
     }
     let name = sheet::block(service, factory, command);
     let length = frame::put_block(room, bytes, name);
