@@ -1,45 +1,43 @@
--- `is_capture` meets its contract: the rows passed fit, and the place is the next row's. Assumes nothing.
-use mathlib.Core.Path.{◌≡◌, sym, ap, ◌∙◌}
-use mathlib.Core.Bool.{true}
-use Prim.Native.Nat.{ℕ, ◌≤◌, ◌+◌, ◌*◌, ◌-◌}
-use native.Mathlib.Omega.{arith}
-use lib.Dec.{eqb}
-use lib.ListN.{length}
-use Rattle.capture.specs.Capture.{count_in, place_in, rows_fit}
-use Rattle.capture.proofs.Check.{place-start, in_row, place-more, rows_start, rows_more, rows-mark, rows_length, short, unfit, told}
+-- `is_capture` meets its contract: the rows passed fit, and their lengths are added up. Assumes nothing.
+use Rattle.std.proofs.Common.{◌≡◌, ℕ, List, get_or, ap, sym, ◌∙◌, arith}
+use Rattle.std.specs.Slice.Iter.{chunks_exact_rest, chunks_exact_size}
+use Rattle.std.proofs.lemmas.List.{length_push}
+use Rattle.capture.proofs.Check.{short, none_passed, one_more, misfit, passed_all}
 use Rattle.capture.proofs.is_capture.Goals as goal
 
-pub returns-then-size-eq0 : goal.returns-then-size-eq0
-returns-then-size-eq0 c = short _ (omega arith)
+pub returns-in_default : goal.returns-in_default
+returns-in_default c = short _ (omega (arith, c.in_default.ensures.cases))
 
-pub returns-then-size-place : goal.returns-then-size-place
-returns-then-size-place c = short _ (omega arith)
+pub returns-in_default-split_at_checked : goal.returns-in_default-split_at_checked
+returns-in_default-split_at_checked c =
+    let cut = c.in-Some.ensures.cases in
+    let count : get_or c.args.s.now 0 0 ≡ c.in-Some.count.now = ap (λ (l : List ℕ). get_or l 0 0) cut.0 in
+    short _ (omega (arith, c.type_inv.s 0, c.in_default-split_at_checked.ensures.cases))
 
 pub loop-row-init : goal.loop-row-init
-loop-row-init c = (omega arith, omega (arith, place-start c.args.s.now), omega arith, rows_start _, c.wide-n.ensures.0)
+loop-row-init c =
+    let cut = c.in-Some.ensures.cases in
+    let parts = c.in-Some-split_at_checked.ensures.cases in
+    let count : get_or c.args.s.now 0 0 ≡ c.in-Some.count.now = ap (λ (l : List ℕ). get_or l 0 0) cut.0 in
+    let from = c.into_iter-row-iterator.ensures.into_iter_gives in
+    let chunks = c.chunks_exact-row-items.ensures in
+    let byte = c.type_inv.s 0 in
+    (ap chunks_exact_size from ∙ chunks.size, none_passed cut.0 (omega arith) (omega arith) parts.0 parts.1 parts.2 (ap chunks_exact_rest from ∙ chunks.rest))
 
-pub returns-then-s-row-gt1 : goal.returns-then-s-row-gt1
-returns-then-s-row-gt1 c =
-    let s = c.args.s.now in
-    let row = c.loop-row.row in
-    let h = in_row s row (omega arith) in
-    unfit s row (omega arith) (rows-mark s row (omega arith))
+pub returns-then-not-fits : goal.returns-then-not-fits
+returns-then-not-fits c =
+    let i = c.loop-row.invariant in
+    let step = c.in-Some-row.ensures.steps.1 in
+    misfit i.1 _ _ step.0 (step.1 ∙ i.0) (sym c.fits.ensures ∙ c.if-not-fits.true)
 
-pub returns-then-length-gt37 : goal.returns-then-length-gt37
-returns-then-length-gt37 c =
-    let s = c.args.s.now in
-    let row = c.loop-row.row in
-    let h = in_row s row (omega arith) in
-    unfit s row (omega arith) (rows_length s row (omega arith))
+pub overflow_add-total : goal.overflow_add-total
+overflow_add-total c = let i = c.loop-row.invariant in omega (arith, i.1.most, i.1.many, i.1.byte)
 
 pub loop-row-preserved : goal.loop-row-preserved
 loop-row-preserved c =
-    let s = c.args.s.now in
-    let l = c.loop-row in
-    let h = in_row s l.row (omega arith) in
-    (omega arith, omega (arith, place-more s l.row), omega arith, rows_more s l.row l.invariant.3 (omega arith) (omega arith), l.invariant.4)
+    let i = c.loop-row.invariant in
+    let steps = c.in-Some-row.ensures.steps in
+    (steps.0 ∙ i.0, rw (length_push c.loop-row.yielded c.in-Some-row.row, c.from-total.ensures) (one_more i.1 _ _ steps.1.0 (steps.1.1 ∙ i.0) (sym c.fits.ensures ∙ c.if-not-fits.false)))
 
 pub returns : goal.returns
-returns c = let s = c.args.s.now in
-    let end : c.loop-row.row ≡ count_in s = omega arith in
-    ap (λ (k : ℕ). eqb k (length s)) (c.loop-row.invariant.1 ∙ ap (place_in s) end) ∙ told s (omega arith) (omega arith) (ap (rows_fit s) (sym end) ∙ c.loop-row.invariant.3)
+returns c = let i = c.loop-row.invariant in passed_all i.1 (omega (arith, c.in-None.ensures.steps.1.0, i.0))

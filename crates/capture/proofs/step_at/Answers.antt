@@ -1,45 +1,35 @@
 -- `step_at` meets its contract: each return is a case of the definition. Assumes nothing.
-use borrow.Author.Rules.{rules}
-use mathlib.Core.Path.{sym, ◌∙◌}
-use native.Mathlib.Omega.{arith}
-use Rattle.capture.proofs.Check.{InRow, in_row}
-use Rattle.capture.proofs.Steps.{has-row, step_start, step-table, step_most, step-mark, step-length, step_past, step-before, step-long, step-next}
+use Rattle.std.proofs.Common.{◌≡◌, ◌+◌, true, arith, sym}
+use Rattle.capture.specs.Capture.{fits, mark_in, length_in}
+use Rattle.capture.proofs.Check.{in_row}
+use Rattle.capture.proofs.Steps.{step_start, step_table, step_most, step_misfit, step_past, step_before, step_long, step_shows}
 use Rattle.capture.proofs.step_at.Goals as goal
 
-pub returns-then-place-eq0 : goal.returns-then-place-eq0
-returns-then-place-eq0 c = step_start _ _ _ (omega arith)
+pub returns-then-is_empty : goal.returns-then-is_empty
+returns-then-is_empty c = grind (arith, step_start, step_table, step_most)
 
-pub returns-then-size-eq0 : goal.returns-then-size-eq0
-returns-then-size-eq0 c = step-table _ _ _ (omega arith)
-
-pub returns-then-size-n : goal.returns-then-size-n
-returns-then-size-n c = step-table _ _ _ (omega arith)
-
-pub returns-then-size-gt-LONGEST : goal.returns-then-size-gt-LONGEST
-returns-then-size-gt-LONGEST c = step_most _ _ _ (omega arith)
+pub returns-then-size-bodies : goal.returns-then-size-bodies
+returns-then-size-bodies c = sym (step_table _ _ _ (omega arith))
 
 pub returns-then-n-row : goal.returns-then-n-row
-returns-then-n-row c = step_past _ _ _ (omega arith) (omega arith) (omega arith) (omega arith)
+returns-then-n-row c = sym (step_past _ _ _ (omega arith) (omega arith) (omega arith) (omega arith))
 
-pub returns-then-mark-gt1 : goal.returns-then-mark-gt1
-returns-then-mark-gt1 c = let h = (let a = c.args in in_row a.s.now a.row (omega arith)) in step-mark _ _ _ (omega arith) (omega arith)
+pub returns-then-not-fits : goal.returns-then-not-fits
+returns-then-not-fits c =
+    let a = c.args in
+    let h = in_row a.s.now a.row (omega arith) in
+    sym (step_misfit _ _ _ (omega arith) cc)
 
-pub returns-then-bytes-gt37 : goal.returns-then-bytes-gt37
-returns-then-bytes-gt37 c = let h = (let a = c.args in in_row a.s.now a.row (omega arith)) in step-length _ _ _ (omega arith) (omega arith)
-
-pub returns-then-place-n : goal.returns-then-place-n
-returns-then-place-n c = let h = (let a = c.args in in_row a.s.now a.row (omega arith)) in step-before _ _ _ (omega arith) (omega arith) (omega arith) (omega arith) (omega arith) (omega arith)
-
-pub returns-then-size-place : goal.returns-then-size-place
-returns-then-size-place c = let h = (let a = c.args in in_row a.s.now a.row (omega arith)) in step-long _ _ _ (omega arith) (omega arith) (omega arith) (omega arith) (omega arith) (omega arith)
-
-pub returns-then-size-place-2 : goal.returns-then-size-place-2
-returns-then-size-place-2 c = let h = (let a = c.args in in_row a.s.now a.row (omega arith)) in step-long _ _ _ (omega arith) (omega arith) (omega arith) (omega arith) (omega arith) (omega arith)
+pub returns-then-size-next : goal.returns-then-size-next
+returns-then-size-next c =
+    let a = c.args in
+    let h = in_row a.s.now a.row (omega arith) in
+    grind (arith, step_before, step_long)
 
 pub returns : goal.returns
 returns c =
     let a = c.args in
-    let s = a.s.now in
-    let h = (let a = c.args in in_row a.s.now a.row (omega arith)) in
-    let has = has-row s a.row a.place (record { below = omega arith; mark = omega arith; size = omega arith; past = omega arith; within = omega arith; most = omega arith }) in
-    rw (h.0, c.wide-bytes.ensures.0 ∙ h.1) (sym (step-next s a.row a.place has))
+    let h = in_row a.s.now a.row (omega arith) in
+    let next : c.saturating_add-next.result ≡ a.place + length_in a.s.now a.row = omega arith in
+    let fit : fits (mark_in a.s.now a.row) (length_in a.s.now a.row) ≡ true = cc in
+    rw (h.0, next) (sym (step_shows a.s.now a.row a.place (omega arith) fit (omega arith) (omega arith) (omega arith)))
