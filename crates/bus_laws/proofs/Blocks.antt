@@ -5,11 +5,12 @@ use mathlib.Core.Bool.{Bool, true, false, cond}
 use mathlib.Core.List.{List}
 use mathlib.Core.Path.{◌≡◌, refl}
 use Rattle.refusals.specs.Numbers.{answer_of}
+use Rattle.refusals.specs.declared.Refusal.{Refusal}
 use Rattle.refusals.specs.declared.Refusal.TheVariants.{BadSheet}
 use Rattle.sheet.specs.Block.{good_sheets, block_answer}
-use Rattle.std.specs.Prelude.{Ok, Err}
+use Rattle.std.specs.Prelude.{Result, Ok, Err}
 
-by_sheets : (good : Bool) → answer_of (cond good (Ok tt) (Err BadSheet)) ≡ cond good 0 9
+by_sheets : (good : Bool) → answer_of (cond {A = Result (Unit {0}) Refusal} good (Ok tt) (Err BadSheet)) ≡ cond good 0 9
 by_sheets true = refl
 by_sheets false = refl
 
