@@ -64,6 +64,7 @@ use Rattle.answers.specs.Conditions.{command_of, is_denied, side_conditions, is_
 use Rattle.answers.specs.Lowest.{◌when◌, lowest, all_above, rising, first_holding}
 use Rattle.answers.specs.Promises.{SideLowest, TransactLowest, SetUpLowest, SampleLowest, LoadLowest, StoreLowest, ChargerTransactLowest, ChargerSampleLowest, ChargerLoadLowest, ChargerStoreLowest, ThirteenSetUpLowest, ThirteenTransactLowest, ThirteenSampleLowest, ThirteenLoadLowest, ThirteenStoreLowest, WriteKeyLowest, ReadKeyLowest, FindLowest, UnescapeLowest, BlockLowest, LocateLowest, WriteSheetLowest, EditLowest, OpenLowest, StepLowest, WriteCaptureLowest, ExchangeLowest, ComparisonLowest, ReportLowest, TableReportLowest}
 use Rattle.answers.proofs.Lowest.{first_is_lowest}
+use Rattle.bus_laws.proofs.Blocks.{block_number}
 
 -- ---- one condition
 
@@ -312,9 +313,9 @@ side_lowest d read bytes room good cut block word only =
     ∙ sym (first_is_lowest (side_conditions d read bytes room good cut) refl)
 
 pub transact_lowest : TransactLowest
-unfolding transact_of transact_answer block_answer
+unfolding transact_of transact_answer
 transact_lowest s service factory read bytes room =
-    side_lowest (pack_side s service factory) read bytes room (good_sheets service factory) (is_ten s.pack (command_of bytes)) refl (ten_exactly s (command_of bytes)) (ten_read_only s.pack (command_of bytes))
+    side_lowest (pack_side s service factory) read bytes room (good_sheets service factory) (is_ten s.pack (command_of bytes)) (block_number service factory) (ten_exactly s (command_of bytes)) (ten_read_only s.pack (command_of bytes))
 
 pub charger_transact_lowest : ChargerTransactLowest
 unfolding charger_bus.transact_of charger_bus.transact_answer

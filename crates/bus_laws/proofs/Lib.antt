@@ -8,3 +8,4 @@ pub mod EveryRow
 pub mod WrongReadings
 pub mod Status
 pub mod Ten
+pub mod Blocks

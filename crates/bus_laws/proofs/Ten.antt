@@ -5,6 +5,7 @@ use mathlib.Core.Bool.{Bool, true, false, cond}
 use mathlib.Core.Path.{◌≡◌, refl, sym, ap, ◌∙◌}
 use native.Mathlib.Omega.{arith}
 use Rattle.bus.specs.Transact.{pack_side}
+use Rattle.bus_laws.proofs.Blocks.{block_number}
 use Rattle.bus_laws.proofs.Served.{read-answer}
 use Rattle.bus_laws.specs.Calls.{answer}
 use Rattle.bus_laws.specs.Promises.{TenAnswered}
@@ -15,7 +16,7 @@ use Rattle.commands.specs.declared.Kind.TheVariants.{ReadWrite, ReadOnly, WriteO
 use Rattle.gauge_laws.proofs.Minutes.{ten_exactly, of_five}
 use Rattle.gauge_laws.specs.Minutes.{is_ten}
 use Rattle.pack.specs.declared.Pack.{Pack}
-use Rattle.sheet.specs.Block.{good_sheets, block_answer}
+use Rattle.sheet.specs.Block.{good_sheets}
 
 no_nine : (good : Bool) → ◌≡◌ {A = ℕ} (cond good 0 9) 10 → ⊥
 no_nine true h = omega (arith, h)
@@ -31,7 +32,6 @@ unfolding kind_of
 ten_read_only p command h = of_five (λ n. kind_of n ≡ ReadOnly) p command h refl refl refl refl refl
 
 pub ten_answered : TenAnswered
-unfolding block_answer
 ten_answered s c command sound room r = (λ h. by_kind (kind_of command) (sym row ∙ h), λ h. row ∙ ap (read_answer side command) (ten_read_only s.pack command h) ∙ word ∙ ap (λ (b : Bool). cond b 10 0) h)
   where
     side : Side
@@ -47,6 +47,6 @@ ten_answered s c command sound room r = (λ h. by_kind (kind_of command) (sym ro
     by_kind Reserved h = absurd (omega (arith, h))
     by_kind Optional h = absurd (omega (arith, h))
     by_kind WriteOnly h = absurd (omega (arith, h))
-    by_kind Block h = absurd (no_nine (good_sheets c.service c.factory) h)
+    by_kind Block h = absurd (no_nine (good_sheets c.service c.factory) (sym (block_number c.service c.factory) ∙ h))
     by_kind ReadOnly h = no_zero (is_ten s.pack command) (sym word ∙ h)
     by_kind ReadWrite h = no_zero (is_ten s.pack command) (sym word ∙ h)
