@@ -1,104 +1,128 @@
-// Results of several numbers in one: the answer in the low byte, the rest above it.
+// Results of several numbers in one: the answer in the low byte, the rest above it; of a refusal its number alone.
 #![tactic(auto)]
 
 ghost use Rattle.std.specs.Prelude.{◌≡◌, ◌+◌, ◌-◌, ◌*◌, ◌<◌, ◌≤◌};
+ghost use Rattle.std.specs.Result.{ForOk};
 ghost use Rattle.capture.specs.Capture.{capture_most};
-ghost use Rattle.packed.specs.Packed.{packed, one_if, check_number, comparison_number, wrote_number, edited_number, opened_number, key_number, located_number, step_number, RowFits};
+ghost use Rattle.packed.specs.Packed.{packed, refused, check_number, comparison_number, wrote_number, opened_number, key_number, located_number, step_number, FoundFits, OpenedFits, LocatedFits, RowFits};
 
 use capture::{Opened, Step};
-use key::Read;
-use pec::{Checked, Compared};
-use rooms::Wrote;
+use key::Found;
+use refusals::Refusal;
 use sheet::Located;
-use sheet_edit::Edited;
-
-fn one_if(b: bool) -> usize
-    ensures { (result ≡ one_if b) × (result < 2) }
-{
-    if b {
-        return 1;
-    }
-    0
-}
 
 // An answer in the low byte, and a number above it.
 pub fn pack_up(answer: u8, above: usize) -> u32
     requires { above < 16777216 }
     ensures { result ≡ packed answer above }
 {
-    (answer as u32) + ((above as u32) << 8)
+    u32::from(answer) + ((above as u32) << 8)
 }
 
-pub fn checked(c: Checked) -> u32
-    ensures { result ≡ check_number c }
+fn refused(reason: Refusal) -> u32
+    ensures { (result ≡ refused reason) × (result < 256) }
 {
-    pack_up(c.answer, one_if(c.right))
+    u32::from(u8::from(reason))
 }
 
-pub fn compared(c: Compared) -> u32
-    requires { c.bits < 16777216 }
-    ensures { result ≡ comparison_number c }
+// Of the exchange check.
+pub fn checked(outcome: Result<bool, Refusal>) -> u32
+    ensures { result ≡ check_number outcome }
 {
-    pack_up(c.answer, c.bits as usize)
+    match outcome {
+        Ok(right) => pack_up(0, usize::from(right)),
+        Err(reason) => refused(reason),
+    }
 }
 
-pub fn wrote(w: Wrote) -> u32
-    requires { w.length < 16777216 }
-    ensures { result ≡ wrote_number w }
+// Of the bit comparison.
+pub fn compared(outcome: Result<u32, Refusal>) -> u32
+    requires { ForOk outcome (λ bits. bits < 16777216) }
+    ensures { result ≡ comparison_number outcome }
 {
-    pack_up(w.answer, w.length)
+    match outcome {
+        Ok(bits) => pack_up(0, bits as usize),
+        Err(reason) => refused(reason),
+    }
 }
 
-pub fn edited(e: Edited) -> u32
-    requires { e.length < 16777216 }
-    ensures { result ≡ edited_number e }
+// Of a key, a name or a sheet that is written, and of an edit.
+pub fn wrote(outcome: Result<usize, Refusal>) -> u32
+    requires { ForOk outcome (λ length. length < 16777216) }
+    ensures { result ≡ wrote_number outcome }
 {
-    pack_up(e.answer, e.length)
+    match outcome {
+        Ok(length) => pack_up(0, length),
+        Err(reason) => refused(reason),
+    }
 }
 
-pub fn opened(o: Opened) -> u32
-    requires { (o.rows < 256) × (o.place < 65536) }
-    ensures { result ≡ opened_number o }
+// Of a capture that is opened.
+pub fn opened(outcome: Result<Opened, Refusal>) -> u32
+    requires { ForOk outcome OpenedFits }
+    ensures { result ≡ opened_number outcome }
 {
-    pack_up(o.answer, o.rows + (o.place << 8))
+    match outcome {
+        Ok(o) => pack_up(0, o.rows + (o.place << 8)),
+        Err(reason) => refused(reason),
+    }
 }
 
-pub fn key_read(read: Read, maker: usize, device: usize) -> u64
-    requires { (maker < 256) × (device < 256) }
-    ensures { result ≡ key_number read maker device }
+fn found(f: Found) -> u64
+    requires { FoundFits f }
+    ensures { result ≡ key_number (Ok f) }
 {
-    (read.answer as u64)
-        + ((maker as u64) << 8)
-        + ((device as u64) << 16)
-        + ((read.date as u64) << 24)
-        + ((read.serial as u64) << 40)
+    let maker = f.maker_end as u64;
+    let device = (f.device_end - f.device_start) as u64;
+    (maker << 8) + (device << 16) + (u64::from(f.date) << 24) + (u64::from(f.serial) << 40)
 }
 
-pub fn located(l: Located) -> u64
-    requires { (l.start ≤ l.end) × (l.end < 256) }
-    ensures { result ≡ located_number l }
+// Of a key that is read.
+pub fn key_read(outcome: Result<Found, Refusal>) -> u64
+    requires { ForOk outcome FoundFits }
+    ensures { result ≡ key_number outcome }
 {
-    let length = l.end - l.start;
-    let last = one_if(l.factory);
-    (l.answer as u64) + ((length as u64) << 8) + ((l.start as u64) << 16) + ((last as u64) << 32)
+    match outcome {
+        Ok(f) => found(f),
+        Err(reason) => u64::from(refused(reason)),
+    }
 }
 
-fn row(mark: u8, place: usize, next: usize) -> u64
-    requires { (place ≤ next) × (next ≤ capture_most) }
-    ensures { result ≡ packed 0 (1 + 2 * mark + 256 * (next - place) + 16777216 * next) }
+fn part(l: Located) -> u64
+    requires { LocatedFits l }
+    ensures { result ≡ located_number (Ok l) }
 {
-    let length = next - place;
-    256 + ((mark as u64) << 9) + ((length as u64) << 16) + ((next as u64) << 32)
+    let length = (l.end - l.start) as u64;
+    (length << 8) + ((l.start as u64) << 16) + (u64::from(l.factory) << 32)
 }
 
-// A step from a place.
-pub fn stepped(place: usize, step: Step) -> u64
-    requires { RowFits place step }
-    ensures { result ≡ step_number place step }
+// Of a block name.
+pub fn located(outcome: Result<Located, Refusal>) -> u64
+    requires { ForOk outcome LocatedFits }
+    ensures { result ≡ located_number outcome }
 {
-    match step {
-        Step::Next(mark, _, next) => row(mark, place, next),
-        Step::End => 0,
-        Step::NotCapture => 14,
+    match outcome {
+        Ok(l) => part(l),
+        Err(reason) => u64::from(refused(reason)),
+    }
+}
+
+fn row(place: usize, step: Step) -> u64
+    requires { (place ≤ step.place) × (step.place ≤ capture_most) }
+    ensures { result ≡ packed 0 (1 + 2 * step.mark + 256 * (step.place - place) + 16777216 * step.place) }
+{
+    let length = step.place - place;
+    256 + (u64::from(step.mark) << 9) + ((length as u64) << 16) + ((step.place as u64) << 32)
+}
+
+// Of a step from a place.
+pub fn stepped(place: usize, outcome: Result<Option<Step>, Refusal>) -> u64
+    requires { RowFits place outcome }
+    ensures { result ≡ step_number place outcome }
+{
+    match outcome {
+        Ok(Some(step)) => row(place, step),
+        Ok(None) => 0,
+        Err(reason) => u64::from(refused(reason)),
     }
 }
