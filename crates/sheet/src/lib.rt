@@ -47,10 +47,10 @@ pub fn is_sheet(bytes: &[u8]) -> bool
     ensures { result ≡ is_sheet bytes.now }
 {
     let size = bytes.len();
-    if size == 0 {
+    let Some(&rows) = bytes.first() else {
         return false;
-    }
-    let n = usize::from(bytes[0]);
+    };
+    let n = usize::from(rows);
     let first = 1 + 4 * n;
     if 4 < n || size < first {
         return false;
