@@ -1,41 +1,36 @@
 -- The theorems on several edits: a series leaves the sheet of the final bodies, as the writer gives it. Assumes nothing.
 use mathlib.Core.Path.{◌≡◌, refl, sym, ap, subst, ◌∙◌}
-use mathlib.Core.Bool.{Bool, true, false, cond, and-true, and-false, and-eq-true_iff}
+use mathlib.Core.Bool.{Bool, true, false, cond, and-eq-true_iff}
 use mathlib.Core.List.{List, [], ◌∷◌}
-use mathlib.Core.Option.{Option, none, some}
+use mathlib.Core.Option.{Option}
 use Prim.Native.Nat.{ℕ, max, ◌≤◌}
 use native.Mathlib.Omega.{arith}
 use lib.Dec.{eqb, leb}
 use lib.ListN.{length, drop}
 use lib.Seq.{take-append_seam}
-use borrow.Author.Tests.{eq-eqb, eqb-true, le-leb, leb-true}
-use Rattle.rooms.specs.Rooms.{Bytes, wrote}
+use borrow.Author.Tests.{eqb-true, le-leb, leb-true}
+use Rattle.std.specs.Prelude.{Result, Ok, Err}
+use Rattle.std.specs.Result.{is_ok}
+use Rattle.refusals.specs.declared.Refusal.{Refusal}
+use Rattle.rooms.specs.Rooms.{Bytes}
 use Rattle.sheet.specs.Sheet.{Entry, old, sheet_of, is_sheet, entries_in, among, body_in}
-use Rattle.sheet_writer.specs.Writing.{entry_if, choice, short, writable, sheet_wrote, sheet_room}
+use Rattle.sheet_writer.specs.Writing.{choice, short, writable, sheet_wrote, sheet_room}
 use Rattle.sheet_writer.proofs.Laid.{choice-few}
 use Rattle.sheet_forms.specs.Forms.{listable}
 use Rattle.sheet_laws.specs.Written.{given_to}
 use Rattle.sheet_laws.proofs.Choices.{chosen, body_back}
 use Rattle.sheet_forms.proofs.Entries.{few_entries}
 use Rattle.sheet_forms.proofs.Forms.{old_proper, one_choice}
-use Rattle.sheet_edit.specs.Edit.{edited, holds_sheet, sheet_after, is_name, size_of, edit_answer, room_with, room_after}
+use Rattle.sheet_edit.specs.Edit.{edited, holds_sheet, sheet_after, is_name, size_of, edit_of, room_with, room_after}
 use Rattle.sheet_edit.proofs.Answers.{Passed, done, is-done, may_stand, now-most}
 use Rattle.sheet_edit.proofs.After.{edited_may}
 use Rattle.sheet_edit.proofs.Rooms.{Front, front, sheet_is}
-use Rattle.edit_laws.specs.Series.{Edit, Held, is_served, is_fit, next, after, AllServed, AllFit, longest, Bodies, with_edit, finally, is_there, bytes_of, choice_of, sheet_in, end_bodies}
+use Rattle.edit_laws.specs.Series.{Edit, Held, is_served, is_fit, told, next, after, AllServed, AllFit, longest, Bodies, with_edit, finally, choice_of, sheet_in, end_bodies}
 use Rattle.edit_laws.specs.Laws.{SeriesLeaves, SeriesAfresh, SeriesServed, EditsCommute}
 use Rattle.edit_laws.proofs.Entries.{either, among_edited}
 use Rattle.edit_laws.proofs.Rooms.{compose, up_to, own_room, front_of, with_length, listed, in-front}
 
 -- ---- entries that may be listed are the writer's choice of what they have
-
-module _ (h : Bool) (b : List ℕ) (i : Bool) (c : List ℕ) (j : Bool) (d : List ℕ) (k : Bool) (e : List ℕ) where
-  entry-is : (tag : ℕ) (has : Bool) (body : List ℕ) → entry_if tag (is_there (cond has (some body) none)) (bytes_of (cond has (some body) none)) ≡ entry_if tag has body
-  entry-is tag true body = refl
-  entry-is tag false body = refl
-
-  given-choice : choice_of (λ tag. given_to tag h b i c j d k e) ≡ choice h b i c j d k e
-  given-choice = simp (and-true, and-false) (rw (entry-is 0x20 h b, entry-is 0x21 i c, entry-is 0x22 j d, entry-is 0x23 k e))
 
 -- a choice depends on what the four tags have
 choice_by : (f g : Bodies) → ((tag : ℕ) → f tag ≡ g tag) → choice_of f ≡ choice_of g
@@ -49,15 +44,25 @@ as_choice : (L : List Entry) → listable old.kinds 0 L ≡ true → Chosen L
 as_choice L g =
     let W = chosen (sheet_of old L) (record { entries = L; may = g; is = refl }) in
     let few : length L ≤ length old.kinds = few_entries old.kinds L g in
-    let C : List Entry = choice W.has20 W.body20 W.has21 W.body21 W.has22 W.body22 W.has23 W.body23 in
-    let few-chosen : length C ≤ 4 = choice-few W.has20 W.body20 W.has21 W.body21 W.has22 W.body22 W.has23 W.body23 in
+    let C : List Entry = choice W.body20 W.body21 W.body22 W.body23 in
+    let few-chosen : length C ≤ 4 = choice-few W.body20 W.body21 W.body22 W.body23 in
     let is : L ≡ C = one_choice old old_proper L C (omega (arith, old_proper.few)) (omega arith) W.is in
-    let has : (tag : ℕ) → given_to tag W.has20 W.body20 W.has21 W.body21 W.has22 W.body22 W.has23 W.body23 ≡ among tag L =
-    λ tag. sym (body_back tag W.has20 W.body20 W.has21 W.body21 W.has22 W.body22 W.has23 W.body23) ∙ ap (λ (x : List Entry). body_in (sheet_of old x) tag) (sym is) ∙ ap (λ (x : List Entry). among tag x) (listed L g) in
+    let has : (tag : ℕ) → given_to tag W.body20 W.body21 W.body22 W.body23 ≡ among tag L =
+    λ tag. sym (body_back tag W.body20 W.body21 W.body22 W.body23) ∙ ap (λ (x : List Entry). body_in (sheet_of old x) tag) (sym is) ∙ ap (λ (x : List Entry). among tag x) (listed L g) in
     record {
-      is = is ∙ sym (given-choice W.has20 W.body20 W.has21 W.body21 W.has22 W.body22 W.has23 W.body23) ∙ choice_by _ _ has;
+      is = is ∙ choice_by (λ tag. given_to tag W.body20 W.body21 W.body22 W.body23) _ has;
       small = ap short is ∙ W.small;
     }
+
+-- ---- what an edit tells
+
+served_as : (r : Result ℕ Refusal) → is_ok r ≡ true → (new : ℕ) × (r ≡ Ok new)
+served_as (Ok new) q = (new, refl)
+served_as (Err reason) q = absurd (cc)
+
+none_told : (r : Result ℕ Refusal) (stated : ℕ) → is_ok r ≡ false → told r stated ≡ stated
+none_told (Ok new) stated q = absurd (cc)
+none_told (Err reason) stated q = refl
 
 -- ---- a room on the way
 
@@ -110,9 +115,10 @@ module _ (e : Edit) (h : Held) (had : Bodies) (top : ℕ) (room₀ : List ℕ) (
 
   step_by : (b : Bool) → is_served e h ≡ b → Next b
   step_by true q =
-      let D = done h.room h.stated e.tag e.to (eqb-true _ 0 q) in
+      let w = served_as (edit_of h.room h.stated e.tag e.to) q in
+      let D = done h.room h.stated e.tag e.to w.1 in
       let t : List ℕ = sheet_of old now in
-      let size : (next e h).stated ≡ length t = rw q (D.length-is ∙ ap length new-sheet) in
+      let size : (next e h).stated ≡ length t = rw w.1 (D.length-is ∙ ap length new-sheet) in
       let z : max top (length (S h had top room₀ H)) ≡ top = omega (arith, H.reach, H.stated_is) in
       let over : room_with (sheet_after h.room h.stated e.tag e.to) h.stated h.room ≡ room_with t (max top (length (S h had top room₀ H))) room₀ =
       ap (λ (x : List ℕ). room_with x h.stated h.room) new-sheet ∙ ap (λ (k : ℕ). room_with t k h.room) H.stated_is ∙ ap (λ (x : List ℕ). room_with t (length (S h had top room₀ H)) x) H.room_is ∙ compose (S h had top room₀ H) t room₀ top in
@@ -125,7 +131,7 @@ module _ (e : Edit) (h : Held) (had : Bodies) (top : ℕ) (room₀ : List ℕ) (
         room_is = D.room_is ∙ over ∙ ap (λ (k : ℕ). room_with t k room₀) z ∙ up_to t room₀ top ∙ ap (λ (k : ℕ). room_with t (max top k) room₀) (sym size);
       }
   step_by false q =
-      let same : (next e h).stated ≡ h.stated = rw q in
+      let same : (next e h).stated ≡ h.stated = none_told (edit_of h.room h.stated e.tag e.to) h.stated q in
       let z : max top (next e h).stated ≡ top = omega (arith, H.reach) in
       record { entries = H.entries; may = H.may; has = H.has; stated_is = same ∙ H.stated_is; reach = omega arith; room_is = refused q ∙ H.room_is ∙ ap (λ (k : ℕ). room_with (S h had top room₀ H) k room₀) (sym z) }
 
@@ -191,15 +197,15 @@ unfolding sheet_wrote sheet_room writable
 afresh es h fresh bytes ok room =
     let w : List ℕ = written es h bytes ok in
     rw (end-small es h bytes ok, le-leb _ _ room)
-    (ap (λ (n : ℕ). wrote 0 n) (sym (end-stated es h bytes ok)), rw (end-front es h bytes ok, end-stated es h bytes ok) (take-append_seam w (drop (length w) fresh)))
+    (rw (end-stated es h bytes ok), rw (end-front es h bytes ok, end-stated es h bytes ok) (take-append_seam w (drop (length w) fresh)))
 
 -- ---- a room that is long enough
 
 module _ (e : Edit) (h : Held) (had : Bodies) (top : ℕ) (room₀ : List ℕ) (H : Holds h had top room₀) (fit : is_fit e ≡ true) (l : 145 ≤ length h.room) where
-  answered : edit_answer h.room h.stated e.tag e.to ≡ 0
+  answered : edit_of h.room h.stated e.tag e.to ≡ Ok (length (sheet_after h.room h.stated e.tag e.to))
   answered =
       let t = (and-eq-true_iff (is_name e.tag) (leb (size_of e.to) 32)).0 fit in
-      let P : Passed h.room h.stated e.tag e.to = record { holds = holds h had top room₀ H; name = t.0; short = leb-true _ _ t.1 } in
+      let P : Passed h.room h.stated e.tag (size_of e.to) = record { holds = holds h had top room₀ H; name = t.0; short = leb-true _ _ t.1 } in
       is-done h.room h.stated e.tag e.to P (omega (arith, now-most (as-front h had top room₀ H) e.tag e.to P))
 
   kept-length : length (next e h).room ≡ length h.room
@@ -210,7 +216,7 @@ module _ (e : Edit) (h : Held) (had : Bodies) (top : ℕ) (room₀ : List ℕ) (
 on_served : (es : List Edit) (h : Held) (had : Bodies) (top : ℕ) (room₀ : List ℕ) → Holds h had top room₀ → 145 ≤ length h.room → AllFit es → AllServed es h
 on_served [] h had top room₀ H l f = tt
 on_served (e ∷ es) h had top room₀ H l f = (
-  eq-eqb _ 0 (answered e h had top room₀ H f.0 l),
+  ap is_ok (answered e h had top room₀ H f.0 l),
   on_served es (next e h) (cond (is_served e h) (with_edit e had) had) (max top (next e h).stated) room₀ (step e h had top room₀ H) (omega (arith, kept-length e h had top room₀ H f.0 l)) f.1,
 )
 

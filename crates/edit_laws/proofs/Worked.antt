@@ -1,11 +1,11 @@
 -- The edits worked by hand: computed. Assumes nothing.
 use mathlib.Core.Path.{refl}
 use Rattle.sheet.specs.Sheet.{old, sheet_of, allows, row_ok, rows_ok, is_sheet_of, entries_from}
-use Rattle.sheet_edit.specs.Edit.{below, above, edited, holds_sheet, edit_answer, edit_of, room_with, room_after}
+use Rattle.sheet_edit.specs.Edit.{below, above, edited, holds_sheet, edit_of, room_with, room_after}
 use Rattle.edit_laws.specs.Worked.{EditsByHand}
 
 pub edits_by_hand : EditsByHand
-unfolding old sheet_of allows row_ok rows_ok is_sheet_of entries_from below above edited holds_sheet edit_answer edit_of room_with room_after
+unfolding old sheet_of allows row_ok rows_ok is_sheet_of entries_from below above edited holds_sheet edit_of room_with room_after
 edits_by_hand =
     record {
       added = refl;

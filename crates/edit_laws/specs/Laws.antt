@@ -1,19 +1,20 @@
 -- What is promised of edits. Definitions: assumes nothing.
-use Rattle.std.specs.Prelude.{◌≡◌, ◌↔◌, true, cond, List, [], ◌∷◌, ℕ, ◌-◌, max, ◌≤◌, ◌<◌, eqb, length, take, drop, replicate}
+use Rattle.std.specs.Prelude.{◌≡◌, ◌↔◌, true, cond, Ok, Err, IsOk, List, [], ◌∷◌, ℕ, ◌-◌, max, ◌≤◌, ◌<◌, eqb, length, take, drop, replicate}
 use Rattle.std.proofs.Math.Option.{Option, none, some, get_or}
-use Rattle.rooms.specs.Rooms.{Bytes, wrote}
+use Rattle.refusals.specs.declared.Refusal.TheVariants.{LongSheet}
+use Rattle.rooms.specs.Rooms.{Bytes}
 use Rattle.sheet.specs.Sheet.{old, sheet_of, is_sheet, entries_in, body_in}
 use Rattle.sheet.specs.Block.{block_of}
 use Rattle.sheet_writer.specs.Writing.{sheet_wrote, sheet_room}
-use Rattle.sheet_edit.specs.Edit.{edited, holds_sheet, sheet_after, is_name, size_of, edit_answer, edit_of, room_with, room_after}
+use Rattle.sheet_edit.specs.Edit.{edited, holds_sheet, sheet_after, is_name, size_of, edit_of, room_with, room_after}
 use Rattle.edit_laws.specs.Series.{Edit, Held, AllFit, AllServed, after, longest, choice_of, sheet_in, end_bodies}
 
 -- ---- one edit
 
--- a room of bytes, and an edit of the sheet at its front that is served: what holds of the room that is left, and of the length that is answered
+-- a room of bytes, and an edit of the sheet at its front that is served: what holds of the room that is left, and of the length that is told
 abbrev pub Served : ((room : List ℕ) (stated tag : ℕ) (to : Option (List ℕ)) (left : List ℕ) (new : ℕ) → Type 0) → Type 0
-Served P = (room : List ℕ) (stated tag : ℕ) (to : Option (List ℕ)) → Bytes room → edit_answer room stated tag to ≡ 0
-    → P room stated tag to (room_after room stated tag to) (edit_of room stated tag to).length
+Served P = (room : List ℕ) (stated tag : ℕ) (to : Option (List ℕ)) (new : ℕ) → Bytes room → edit_of room stated tag to ≡ Ok new
+    → P room stated tag to (room_after room stated tag to) new
 
 -- the front is a sheet, so without gaps, and it lists exactly the edited entries
 abbrev pub EditLists : Type 0
@@ -38,7 +39,7 @@ EditBehind = Served (λ room stated tag to left new.
 
 -- an edit that leaves room and length as they are
 abbrev pub Nothing : List ℕ → ℕ → ℕ → Option (List ℕ) → Type 0
-Nothing room stated tag to = (edit_of room stated tag to ≡ record { answer = 0; length = stated }) × (room_after room stated tag to ≡ room)
+Nothing room stated tag to = (edit_of room stated tag to ≡ Ok stated) × (room_after room stated tag to ≡ room)
 
 -- setting what is there changes nothing
 abbrev pub SetNothing : Type 0
@@ -50,19 +51,19 @@ abbrev pub RemoveNothing : Type 0
 RemoveNothing = (room : List ℕ) (stated tag : ℕ) → Bytes room → holds_sheet room stated ≡ true → is_name tag ≡ true → body_in (take stated room) tag ≡ none
     → Nothing room stated tag none
 
--- 20 comes exactly when the new sheet is longer than the room
+-- an edit that passes the other tests is refused exactly when the new sheet is longer than the room
 abbrev pub EditTwenty : Type 0
 EditTwenty = (room : List ℕ) (stated tag : ℕ) (to : Option (List ℕ)) → holds_sheet room stated ≡ true → is_name tag ≡ true → size_of to ≤ 32
-    → (edit_answer room stated tag to ≡ 20) ↔ (length room < length (sheet_after room stated tag to))
+    → (edit_of room stated tag to ≡ Err LongSheet) ↔ (length room < length (sheet_after room stated tag to))
 
 -- so never in a room of 145 bytes
 abbrev pub EditRoomEnough : Type 0
 EditRoomEnough = (room : List ℕ) (stated tag : ℕ) (to : Option (List ℕ)) → Bytes room → 145 ≤ length room → holds_sheet room stated ≡ true → is_name tag ≡ true → size_of to ≤ 32
-    → edit_answer room stated tag to ≡ 0
+    → IsOk (edit_of room stated tag to)
 
 -- nor to a removal
 abbrev pub RemoveServed : Type 0
-RemoveServed = (room : List ℕ) (stated tag : ℕ) → Bytes room → holds_sheet room stated ≡ true → is_name tag ≡ true → edit_answer room stated tag none ≡ 0
+RemoveServed = (room : List ℕ) (stated tag : ℕ) → Bytes room → holds_sheet room stated ≡ true → is_name tag ≡ true → IsOk (edit_of room stated tag none)
 
 -- ---- several
 
@@ -75,7 +76,7 @@ SeriesLeaves = (es : List Edit) (h : Held) → Bytes h.room → holds_sheet h.ro
 -- byte for byte the sheet that the writer gives for the final bodies, in any room of 145 bytes or more
 abbrev pub SeriesAfresh : Type 0
 SeriesAfresh = (es : List Edit) (h : Held) (fresh : List ℕ) → Bytes h.room → holds_sheet h.room h.stated ≡ true → 145 ≤ length fresh
-    → (sheet_wrote (choice_of (end_bodies es h)) fresh ≡ wrote 0 (after es h).stated)
+    → (sheet_wrote (choice_of (end_bodies es h)) fresh ≡ Ok (after es h).stated)
     × (take (after es h).stated (sheet_room (choice_of (end_bodies es h)) fresh) ≡ sheet_in (after es h))
 
 -- in a room of 145 bytes a series of edits whose tags and bodies pass the tests is served throughout

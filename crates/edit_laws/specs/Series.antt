@@ -1,9 +1,11 @@
 -- A series of edits: the rooms that it leads through, and what each tag has in the end. Definitions: assumes nothing.
-use Rattle.std.specs.Prelude.{◌≡◌, Bool, true, false, cond, ◌&&◌, List, [], ◌∷◌, ℕ, max, eqb, leb, take}
-use Rattle.std.proofs.Math.Option.{Option, none, some}
+use Rattle.std.specs.Prelude.{◌≡◌, Bool, true, cond, ◌&&◌, Result, Ok, Err, List, [], ◌∷◌, ℕ, max, eqb, leb, take}
+use Rattle.std.specs.Result.{is_ok}
+use Rattle.std.proofs.Math.Option.{Option}
+use Rattle.refusals.specs.declared.Refusal.{Refusal}
 use Rattle.sheet.specs.Sheet.{Entry, body_in}
 use Rattle.sheet_writer.specs.Writing.{choice}
-use Rattle.sheet_edit.specs.Edit.{is_name, size_of, edit_answer, edit_of, room_after}
+use Rattle.sheet_edit.specs.Edit.{is_name, size_of, edit_of, room_after}
 
 -- an edit: a tag gets a body (set) or none (remove)
 pub record Edit : Type 0 where
@@ -15,19 +17,24 @@ pub record Held : Type 0 where
   pub room : List ℕ
   pub stated : ℕ
 
--- the edit is answered 0
+-- the edit is served
 abbrev pub is_served : Edit → Held → Bool
-is_served e h = eqb (edit_answer h.room h.stated e.tag e.to) 0
+is_served e h = is_ok (edit_of h.room h.stated e.tag e.to)
 
 -- an edit's tag and body pass the tests
 abbrev pub is_fit : Edit → Bool
 is_fit e = is_name e.tag && leb (size_of e.to) 32
 
--- after an edit the length is the one that it answers; after a refused one it is what it was
+-- the length that an edit tells; of a refused one, the length that there was
+abbrev pub told : Result ℕ Refusal → ℕ → ℕ
+told (Ok new) stated = new
+told (Err reason) stated = stated
+
+-- after an edit the length is the one that it tells; after a refused one it is what it was
 abbrev pub next : Edit → Held → Held
 next e h = record {
   room = room_after h.room h.stated e.tag e.to;
-  stated = cond (is_served e h) (edit_of h.room h.stated e.tag e.to).length h.stated;
+  stated = told (edit_of h.room h.stated e.tag e.to) h.stated;
 }
 
 -- after a series
@@ -65,21 +72,9 @@ finally (e ∷ es) h had = finally es (next e h) (cond (is_served e h) (with_edi
 
 -- ---- the same bodies for the writer
 
--- there is a body
-abbrev pub is_there : Option (List ℕ) → Bool
-is_there none = false
-is_there (some body) = true
-
--- its bytes; of none no bytes, which the writer ignores
-abbrev pub bytes_of : Option (List ℕ) → List ℕ
-bytes_of none = []
-bytes_of (some body) = body
-
 -- the writer's choice: a body or none for each of the tags 20, 21, 22 and 23
 abbrev pub choice_of : Bodies → List Entry
-choice_of has =
-    choice (is_there (has 0x20)) (bytes_of (has 0x20)) (is_there (has 0x21)) (bytes_of (has 0x21))
-    (is_there (has 0x22)) (bytes_of (has 0x22)) (is_there (has 0x23)) (bytes_of (has 0x23))
+choice_of has = choice (has 0x20) (has 0x21) (has 0x22) (has 0x23)
 
 -- ---- a held sheet
 

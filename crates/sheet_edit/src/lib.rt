@@ -1,7 +1,7 @@
 // Edits of a pack sheet in place: one body set (added or replaced) or removed, in a lent room that holds the sheet in its first bytes.
 #![tactic(auto)]
 
-ghost use Rattle.std.specs.Prelude.{◌≡◌, Ok};
+ghost use Rattle.std.specs.Prelude.{◌≡◌};
 ghost use Rattle.std.proofs.Math.Option.{none, some};
 ghost use Rattle.sheet_edit.specs.Edit.{is_name, edit_of, room_after};
 ghost use Rattle.sheet_edit.specs.Tests.{tested, found_in};

@@ -1,7 +1,7 @@
 // The steps of an edit, each within the room that holds the sheet. Only our own crates call these.
 #![tactic(auto)]
 
-ghost use Rattle.std.specs.Prelude.{◌≡◌, cond, ◌+◌, ◌*◌, ◌<◌, ◌≤◌, ltb, length, get_or};
+ghost use Rattle.std.specs.Prelude.{◌≡◌, ◌+◌, ◌*◌, ◌<◌, ◌≤◌, length, get_or};
 ghost use Rattle.sheet_steps.specs.Steps.{count_below, place_in, span_in, laid, taken_out, put_in};
 
 // The rows with a tag, one or none, from the first to past the last, and their bodies.
