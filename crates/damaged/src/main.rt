@@ -2,10 +2,11 @@
 #![tactic(auto)]
 
 ghost use Rattle.std.specs.Prelude.{◌≡◌, IfOk};
-ghost use Rattle.reader.specs.Reading.{start_of, step_of, after_of, moved};
+ghost use Rattle.reader.specs.Reading.{start_of, after_of, moved};
 
 use capture::Step;
 use reader::Reader;
+use refusals::Refusal;
 use std::io;
 
 fn print_bytes(rt: &impl Print, bytes: &[u8]) -> io::Result<()> {
@@ -20,18 +21,22 @@ fn print_line(rt: &impl Print, text: &[u8]) -> io::Result<()> {
     println!(rt)
 }
 
-fn print_number(rt: &impl Print, n: u8) -> io::Result<()> {
-    println!(rt; "{n}")
+fn print_refusal(rt: &impl Print, reason: Refusal) -> io::Result<()> {
+    println!(rt; "{}", u8::from(reason))
+}
+
+fn print_answer<T>(rt: &impl Print, outcome: &Result<T, Refusal>) -> io::Result<()> {
+    println!(rt; "{}", refusals::answer(outcome))
 }
 
 // What a writer answers, and how many bytes it wrote.
-fn print_wrote(rt: &impl Print, answer: u8, length: usize) -> io::Result<()> {
-    print!(rt; "{answer} {length}")
+fn print_wrote(rt: &impl Print, wrote: Result<usize, Refusal>) -> io::Result<()> {
+    print!(rt; "{} {}", refusals::answer(&wrote), wrote.unwrap_or(0))
 }
 
 // The answer and the length, then the room's first 18 bytes.
-fn sheet_written(rt: &impl Print, wrote: rooms::Wrote, room: &[u8]) -> io::Result<()> {
-    print_wrote(rt, wrote.answer, wrote.length)?;
+fn sheet_written(rt: &impl Print, wrote: Result<usize, Refusal>, room: &[u8]) -> io::Result<()> {
+    print_wrote(rt, wrote)?;
     println!(rt)?;
     if 18 <= room.len() {
         print_bytes(rt, &room[0..18])?;
@@ -43,28 +48,26 @@ fn sheet_written(rt: &impl Print, wrote: rooms::Wrote, room: &[u8]) -> io::Resul
 fn write_sheets(rt: &impl Print) -> io::Result<()> {
     let mut room = [0xEEu8; 145];
     let mut small = [0xEEu8; 144];
-    let served = sheet_writer::write_sheet(
-        &mut room, true, b"Acme", false, b"?", true, b"LION", false, b"",
-    );
+    let served = sheet_writer::write_sheet(&mut room, Some(b"Acme"), None, Some(b"LION"), None);
     sheet_written(rt, served, &room)?;
-    let refused = sheet_writer::write_sheet(
-        &mut small, true, b"Acme", false, b"", true, b"LION", false, b"",
-    );
+    let refused = sheet_writer::write_sheet(&mut small, Some(b"Acme"), None, Some(b"LION"), None);
     sheet_written(rt, refused, &small)
 }
 
-// No body over 32 bytes; an absent body's bytes are ignored.
+// No body over 32 bytes; a body of none is there all the same.
 fn write_long_bodies(rt: &impl Print) -> io::Result<()> {
     let long = [0x41u8; 33];
     let mut room = [0xEEu8; 145];
     let over = sheet_writer::write_sheet(
-        &mut room, true, b"Acme", true, &long, true, b"LION", false, b"",
+        &mut room,
+        Some(b"Acme"),
+        Some(&long),
+        Some(b"LION"),
+        None,
     );
     sheet_written(rt, over, &room)?;
-    let absent = sheet_writer::write_sheet(
-        &mut room, true, b"", false, &long, false, b"", false, b"",
-    );
-    sheet_written(rt, absent, &room)
+    let empty = sheet_writer::write_sheet(&mut room, Some(b""), None, None, None);
+    sheet_written(rt, empty, &room)
 }
 
 // 20 is in both sheets, 22 in the service sheet, 21 in the factory sheet, 23 and 24 in neither.
@@ -76,11 +79,11 @@ fn block_names(rt: &impl Print) -> io::Result<()> {
     print_line(rt, sheet::block(service, factory, 0x22))?;
     print_line(rt, sheet::block(service, factory, 0x23))?;
     print_line(rt, sheet::block(service, factory, 0x24))?;
-    print_number(rt, sheet::block_answer(service, factory))?;
+    print_answer(rt, &sheet::block_answer(service, factory))?;
     print_line(rt, sheet::block(service, b"", 0x20))?;
-    print_number(rt, sheet::block_answer(service, b""))?;
+    print_answer(rt, &sheet::block_answer(service, b""))?;
     print_line(rt, sheet::block(b"\x01", factory, 0x21))?;
-    print_number(rt, sheet::block_answer(b"\x01", factory))
+    print_answer(rt, &sheet::block_answer(b"\x01", factory))
 }
 
 fn verdict(rt: &impl Print, fault: &str, bytes: &[u8]) -> io::Result<()> {
@@ -149,42 +152,42 @@ fn sheet_bodies(rt: &impl Print) -> io::Result<()> {
 // A row's mark and body; the next place.
 fn print_row(rt: &impl Print, bytes: &[u8], row: usize, place: usize) -> io::Result<usize> {
     match capture::step_at(bytes, row, place) {
-        Step::Next(mark, _, next) => {
-            print!(rt; "{mark} ")?;
+        Ok(Some(step)) => {
+            print!(rt; "{} ", step.mark)?;
             print_bytes(rt, capture::body_at(bytes, row, place))?;
-            Ok(next)
+            Ok(step.place)
         }
-        Step::End => Ok(place),
-        Step::NotCapture => Ok(place),
+        _ => Ok(place),
     }
 }
 
 // 14 for bytes that aren't a capture; else the number of rows, and each row.
 fn read(rt: &impl Print, bytes: &[u8]) -> io::Result<()> {
-    let opened = capture::open(bytes);
-    if opened.answer != 0 {
-        return print_number(rt, opened.answer);
-    }
+    let opened = match capture::open(bytes) {
+        Ok(opened) => opened,
+        Err(reason) => return print_refusal(rt, reason),
+    };
     println!(rt; "{}", opened.rows)?;
-    let n = opened.rows;
-    let mut row = 0;
     let mut place = opened.place;
-    while row < n {
+    for row in 0..opened.rows {
         place = print_row(rt, bytes, row, place)?;
-        row += 1;
     }
     Ok(())
 }
 
 // What a reader is at: a row's mark and body, the end, or bytes that aren't a capture.
-fn print_shown(rt: &impl Print, step: Step, body: &[u8]) -> io::Result<()> {
-    match step {
-        Step::Next(mark, _, _) => {
-            print!(rt; "{mark} ")?;
+fn print_shown(
+    rt: &impl Print,
+    shown: Result<Option<Step>, Refusal>,
+    body: &[u8],
+) -> io::Result<()> {
+    match shown {
+        Ok(Some(step)) => {
+            print!(rt; "{} ", step.mark)?;
             print_bytes(rt, body)
         }
-        Step::End => println!(rt; "end"),
-        Step::NotCapture => print_number(rt, 14),
+        Ok(None) => println!(rt; "end"),
+        Err(reason) => print_refusal(rt, reason),
     }
 }
 
@@ -196,21 +199,20 @@ fn turn<'a>(rt: &impl Print, r: Reader<'a>) -> io::Result<Reader<'a>>
     Ok(reader::after(r))
 }
 
-// What a reader is at after three rows, each printed.
-fn past_three(rt: &impl Print, bytes: &[u8]) -> io::Result<Step>
-    ensures { IfOk result (λ step. step ≡ step_of (moved 3 (start_of bytes.entry))) }
+// The reader after three rows, each printed.
+fn past_three<'a>(rt: &impl Print, bytes: &'a [u8]) -> io::Result<Reader<'a>>
+    ensures { IfOk result (λ gone. gone ≡ moved 3 (start_of bytes.entry)) }
 {
     let first = turn(rt, reader::start(bytes))?;
     let second = turn(rt, first)?;
-    let third = turn(rt, second)?;
-    Ok(reader::next(third))
+    turn(rt, second)
 }
 
 // A capture of up to three rows, as a reader walks it to its end.
 fn walk(rt: &impl Print, bytes: &[u8]) -> io::Result<()> {
     println!(rt; "a reader:")?;
-    let step = past_three(rt, bytes)?;
-    print_shown(rt, step, b"")
+    let last = past_three(rt, bytes)?;
+    print_shown(rt, reader::next(last), b"")
 }
 
 // The answer and the length; then the whole room.
@@ -222,7 +224,7 @@ fn write_capture(
     room: &mut [u8],
 ) -> io::Result<()> {
     let wrote = capture_writer::write_capture(marks, lengths, bodies, room);
-    print_wrote(rt, wrote.answer, wrote.length)?;
+    print_wrote(rt, wrote)?;
     print!(rt; " ")?;
     print_bytes(rt, room)
 }
@@ -282,7 +284,7 @@ fn write_256(rt: &impl Print) -> io::Result<()> {
     let lengths = [0u8; 256];
     let mut room = [0u8; 513];
     let wrote = capture_writer::write_capture(&marks, &lengths, &[], &mut room);
-    print_number(rt, wrote.answer)
+    print_answer(rt, &wrote)
 }
 
 fn main(rt: HostRuntime) -> io::Result<()> {
