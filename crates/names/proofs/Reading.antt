@@ -1,4 +1,4 @@
--- The laws of reading names: what plain reading and the escape rule find, byte by byte, and what that says of the bytes. Assumes nothing.
+-- The laws of reading names: what plain reading and the escape rule find after 32 bytes, and what they say of the bytes. Assumes nothing.
 use mathlib.Core.Path.{◌≡◌, refl, sym, ap, ◌∙◌, subst}
 use mathlib.Core.Bool.{Bool, true, false, cond}
 use mathlib.Core.List.{List, [], ◌∷◌, ◌++◌, append_assoc, append-nil}

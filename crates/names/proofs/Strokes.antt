@@ -13,7 +13,7 @@ use Rattle.std.specs.Prelude.{Some, None}
 use Rattle.names.specs.Steps.{stroke_of}
 use Rattle.names.proofs.Reading.{Is, plain_is}
 
--- ---- what such a place says
+-- ---- where a name ends
 
 pub record Named (k : List ℕ) (from b : ℕ) : Type 0 where
   pub name : List ℕ
