@@ -30,9 +30,10 @@ fn total_sound(ms: u16, total: u32) -> bool
     requires { ms ≤ 1000 }
     ensures { result ≡ total_sound ms total }
 {
-    let ms = i32::from(ms);
+    let out = capacity::product16(32768, ms) as i32;
+    let into = capacity::product16(32767, ms) as i32;
     let total = total.cast_signed();
-    (-32768 * ms <= total) & (total <= 32767 * ms)
+    (-out <= total) & (total <= into)
 }
 
 fn totals_sound(totals: &[u32]) -> bool
@@ -73,7 +74,7 @@ pub fn average(r: Recent, latest: u16) -> u16
         return latest;
     }
     let sum = summed(&r.totals[..r.count]);
-    let ms = 1000 * r.count as i32;
+    let ms = capacity::product16(1000, r.count as u16) as i32;
     let mean = sum / ms;
     words::kept(mean as i16)
 }

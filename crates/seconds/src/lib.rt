@@ -1,11 +1,22 @@
 // What a sample makes of the recent minute: its current is shared among the seconds that its milliseconds cross.
 #![tactic(auto)]
 
-ghost use Rattle.std.specs.Prelude.{◌≡◌, ◌≤◌, true, ◌∷◌, ◌++◌, take, replicate};
+ghost use Rattle.std.specs.Prelude.{◌≡◌, ◌≤◌, true, ◌∷◌, ◌++◌, take, replicate, pos, ◌*ℤ◌};
+ghost use Rattle.std.specs.Int.{w16};
+ghost use Rattle.std.proofs.Common.{to_z};
 ghost use Rattle.recent.specs.Recent.{recent_sound, total_sound};
 ghost use Rattle.seconds.specs.Seconds.{flowed_of, recent_after};
 
 use recent::Recent;
+
+// A signed word by a number of milliseconds.
+fn signed_product(current: u16, ms: u16) -> i32
+    requires { ms ≤ 1000 }
+    ensures { result ≡ to_z w16 current *ℤ pos ms }
+{
+    let size = capacity::product16(words::size(current) as u16, ms) as i32;
+    if words::falls(current) { -size } else { size }
+}
 
 // A total after a current flowed for so many milliseconds more.
 fn flowed(total: u32, current: u16, ms: u32) -> u32
@@ -13,7 +24,7 @@ fn flowed(total: u32, current: u16, ms: u32) -> u32
     requires sound { total_sound 1000 total ≡ true }
     ensures { result ≡ flowed_of total current ms }
 {
-    let flow = i32::from(current.cast_signed()) * ms as i32;
+    let flow = signed_product(current, ms as u16);
     (total.cast_signed() + flow).cast_unsigned()
 }
 

@@ -3,3 +3,4 @@ pub mod Rows
 pub mod Lengths
 pub mod Names
 pub mod Entries
+pub mod Shift

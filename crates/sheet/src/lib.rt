@@ -51,14 +51,14 @@ pub fn is_sheet(bytes: &[u8]) -> bool
         return false;
     };
     let n = usize::from(rows);
-    let first = 1 + 4 * n;
+    let first = 1 + (n << 2);
     if 4 < n || size < first {
         return false;
     }
     let mut low = 0;
     let mut end = first;
     for i in 0..n {
-        let at = 1 + 4 * i;
+        let at = 1 + (i << 2);
         if !row_ok(bytes, at, low, end) {
             return false;
         }
@@ -74,7 +74,7 @@ fn find(sheet: &[u8], tag: u8) -> Option<Span>
     ensures { result ≡ find_in sheet.now tag }
 {
     for i in 0..usize::from(sheet[0]) {
-        let at = 1 + 4 * i;
+        let at = 1 + (i << 2);
         if sheet[at] == tag {
             let start = rooms::offset(sheet[at + 2], sheet[at + 3]);
             let end = start + usize::from(sheet[at + 1]);

@@ -18,17 +18,17 @@ pub fn rows_size(rows: usize) -> usize
     requires { rows ≤ 6 }
     ensures { result ≡ 4 * rows }
 {
-    4 * rows
+    rows << 2
 }
 
 // How many of n rows have tags below `tag`.
 fn count(sheet: &[u8], n: usize, tag: u8) -> usize
-    requires { 1 + 4 * n ≤ length sheet.now }
+    requires { (1 + 4 * n ≤ length sheet.now) × (n ≤ 6) }
     ensures { result ≡ count_below n sheet.now 1 tag }
 {
     let mut below = 0;
     for i in 0..n {
-        below += usize::from(sheet[1 + 4 * i] < tag);
+        below += usize::from(sheet[1 + (i << 2)] < tag);
     }
     below
 }
@@ -39,7 +39,7 @@ fn place(sheet: &[u8], n: usize, k: usize) -> usize
     ensures { result ≡ place_in sheet.now n k }
 {
     if k < n {
-        let at = 1 + 4 * k;
+        let at = 1 + (k << 2);
         rooms::offset(sheet[at + 2], sheet[at + 3])
     } else {
         sheet.len()
@@ -70,7 +70,7 @@ fn lay(room: &mut [u8], n: usize)
 {
     let mut end = 1 + rows_size(n);
     for i in 0..n {
-        let at = 1 + 4 * i;
+        let at = 1 + (i << 2);
         let size = usize::from(room[at + 1]);
         rooms::put_bytes(room, at + 2, &(end as u16).to_le_bytes());
         end += size;

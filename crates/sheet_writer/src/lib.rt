@@ -72,7 +72,7 @@ pub fn write_sheet(
     room[0] = n as u8;
     let start = Cursor {
         row: 1,
-        end: 1 + 4 * n,
+        end: 1 + (n << 2),
     };
     let past20 = put_entry(room, start, 0x20, body20);
     let past21 = put_entry(room, past20, 0x21, body21);

@@ -22,7 +22,7 @@ fn report_in(table: &[u8]) -> Result<Figures, Refusal>
     let rows = table.len() / ROW;
     let mut t = shelf_row::begin(rows)?;
     for i in 0..rows {
-        let at = ROW * i;
+        let at = i << 3;
         let remaining = number_at(table, at);
         let full = number_at(table, at + 2);
         let design = number_at(table, at + 4);

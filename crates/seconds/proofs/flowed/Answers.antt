@@ -10,8 +10,6 @@ returns c =
     let a = c.args in
     let f = flow_fits a.current a.ms c.requires.short in
     let g = sum_fits a.total a.current a.ms c.requires.short c.requires.sound in
-    let e : to_z w32 a.ms ≡ pos a.ms = to_z_pos w32 a.ms (omega arith) in
-    let h : SFits w16 c.cast_signed.result = record { sfits = c.cast_signed.type_inv } in
-    let i : SFits w32 c.from.result = record { sfits = c.from.type_inv } in
-    let j : SFits w32 c.cast_signed-2.result = record { sfits = c.cast_signed-2.type_inv } in
+    let i : SFits w32 c.signed_product-flow.result = record { sfits = c.signed_product-flow.type_inv } in
+    let j : SFits w32 c.cast_signed.result = record { sfits = c.cast_signed.type_inv } in
     grind (arith, to_z-of_z)
