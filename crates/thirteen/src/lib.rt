@@ -73,7 +73,12 @@ fn answered(s: ThirteenState, answer: u8, length: usize) -> Transacted<ThirteenS
 }
 
 // A word read, with the answer that comes with the word.
-fn serve_word(s: ThirteenState, command: u8, bytes: &[u8], room: &mut [u8]) -> Transacted<ThirteenState>
+fn serve_word(
+    s: ThirteenState,
+    command: u8,
+    bytes: &[u8],
+    room: &mut [u8],
+) -> Transacted<ThirteenState>
     requires { (sound_of s ≡ true) × (34 ≤ length room.old) }
     ensures result { result ≡ outcome s (word_answer s.pack command) (length (reply_of bytes.now (word_body (word_of s.pack command)))) }
     ensures memory { room.new ≡ placed (reply_of bytes.now (word_body (word_of s.pack command))) room.old }
@@ -84,7 +89,12 @@ fn serve_word(s: ThirteenState, command: u8, bytes: &[u8], room: &mut [u8]) -> T
 }
 
 // A read of all cells, which have no count.
-fn serve_cells(s: ThirteenState, command: u8, bytes: &[u8], room: &mut [u8]) -> Transacted<ThirteenState>
+fn serve_cells(
+    s: ThirteenState,
+    command: u8,
+    bytes: &[u8],
+    room: &mut [u8],
+) -> Transacted<ThirteenState>
     requires { 34 ≤ length room.old }
     ensures result { result ≡ row_given s bytes.now command Block }
     ensures memory { room.new ≡ placed (row_reply (thirteen_side s) bytes.now command Block) room.old }
@@ -96,7 +106,12 @@ fn serve_cells(s: ThirteenState, command: u8, bytes: &[u8], room: &mut [u8]) -> 
 }
 
 // A read, by its command's row.
-fn serve_read(s: ThirteenState, command: u8, bytes: &[u8], room: &mut [u8]) -> Transacted<ThirteenState>
+fn serve_read(
+    s: ThirteenState,
+    command: u8,
+    bytes: &[u8],
+    room: &mut [u8],
+) -> Transacted<ThirteenState>
     requires { (sound_of s ≡ true) × (34 ≤ length room.old) }
     ensures result { result ≡ row_given s bytes.now command (thirteen_kind command) }
     ensures memory { room.new ≡ placed (row_reply (thirteen_side s) bytes.now command (thirteen_kind command)) room.old }
@@ -122,7 +137,12 @@ fn write_answer(command: u8, checked: bool) -> u8
 }
 
 // What the driver's bytes and mark are answered.
-pub fn transact(s: ThirteenState, read: bool, bytes: &[u8], room: &mut [u8]) -> Transacted<ThirteenState>
+pub fn transact(
+    s: ThirteenState,
+    read: bool,
+    bytes: &[u8],
+    room: &mut [u8],
+) -> Transacted<ThirteenState>
     ensures result { result ≡ transact_of s read bytes.now (length room.old) }
     ensures memory { room.new ≡ reply_room s read bytes.now room.old }
 {
