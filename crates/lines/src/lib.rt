@@ -64,7 +64,12 @@ fn play_rows<S: Copy, F: Fn(S, bool, &[u8], &mut [u8]) -> Transacted<S>>(
             return Ok(());
         };
         let mut room = [0u8; 34];
-        let out = transact(state, step.mark == 1, capture::body_at(bytes, row, place), &mut room);
+        let out = transact(
+            state,
+            step.mark == 1,
+            capture::body_at(bytes, row, place),
+            &mut room,
+        );
         print_line(rt, out.answer, &room, out.length)?;
         state = out.state;
         place = step.place;
