@@ -8,6 +8,7 @@ ghost use Rattle.capacity.specs.Capacity.{power_of, energy_of, capped_word, mill
 pub fn product16(a: u16, b: u16) -> u32
     ensures { result ≡ a * b }
 {
+    // Cast where they meet: so tools/wide-multiply sees that each factor has 16 bits.
     (a as u32) * (b as u32)
 }
 
@@ -36,13 +37,13 @@ pub fn product(amount: u64, factor: u16) -> u64
     let middle = carried(low16(above), factor, low >> 16);
     let high = carried(low16(above >> 16), factor, middle >> 16);
     let below = ((middle % 65536) << 16) + low % 65536;
-    ((high as u64) << 32) + (below as u64)
+    (u64::from(high) << 32) + u64::from(below)
 }
 
 pub fn capped(x: u64) -> u16
     ensures { result ≡ capped_word x }
 {
-    if x < 65535 { x as u16 } else { 65535 }
+    x.min(65535) as u16
 }
 
 // Of mAh in 10 mWh, of mA in 10 mW.
@@ -50,7 +51,7 @@ pub fn power(amount: u64, voltage: u16) -> u64
     requires { amount ≤ 65535 }
     ensures { result ≡ power_of amount voltage }
 {
-    (product16(amount as u16, voltage) / 10000) as u64
+    u64::from(product16(amount as u16, voltage) / 10000)
 }
 
 // Of mA·ms in 10 mWh.

@@ -60,7 +60,7 @@ fn write_of(bytes: &[u8], checked: bool) -> Request
     Request::Write {
         command: bytes[1],
         word: words::join(bytes[2], bytes[3]),
-        checked: checked,
+        checked,
     }
 }
 
@@ -70,14 +70,7 @@ pub fn put_word(room: &mut [u8], request: &[u8], w: u16) -> usize
     ensures result { result ≡ length (reply_of request.now (word_body w)) }
     ensures memory { room.new ≡ placed (reply_of request.now (word_body w)) room.old }
 {
-    let low = words::low(w);
-    let high = words::high(w);
-    let start = pec::pec(request);
-    let check = pec::pec_from(start, &[low, high]);
-    room[0] = low;
-    room[1] = high;
-    room[2] = check;
-    3
+    put_body(room, request, &[words::low(w), words::high(w)])
 }
 
 // A block reply at the front of the room; its length.

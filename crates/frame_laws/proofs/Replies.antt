@@ -1,7 +1,7 @@
 -- Every reply is right, at its length; it tells what it carries; and a command misheard shows up.
 -- Assumes nothing.
 use mathlib.Core.Path.{◌≡◌, refl, sym, ap, ap₂, ◌∙◌, subst}
-use mathlib.Core.Bool.{Bool, true}
+use mathlib.Core.Bool.{true}
 use mathlib.Core.List.{List, [], ◌∷◌, ◌++◌, append_assoc}
 use Prim.Native.Nat.{ℕ, ◌+◌, ◌-◌, ◌≤◌, ◌<◌}
 use native.Mathlib.Omega.{arith}
@@ -11,7 +11,7 @@ use lib.ListN.{length, get_or, take, length-append}
 use lib.Seq.{get_or_at, take_at}
 use Rattle.pec.specs.Pec.{pec_of}
 use Rattle.pec.specs.Messages.{ends_in_pec, Right, exchange_check}
-use Rattle.pec.specs.declared.Checked.{Checked}
+use Rattle.std.proofs.Common.{Ok}
 use Rattle.pec.proofs.Bounds.{pec_lt}
 use Rattle.pec_laws.specs.Faults.{Rights}
 use Rattle.rooms.specs.Rooms.{Bytes}
@@ -39,13 +39,13 @@ pub ends_right : (xs : List ℕ) → Right (with_pec xs)
 ends_right xs = (omega (arith, length-append xs (pec_of xs ∷ [])), ends_in xs (pec_of xs) ∙ eq-eqb (pec_of xs) (pec_of xs) refl)
 
 -- the exchange check of 2 to 37 bytes
-inside : (message : List ℕ) → 2 ≤ length message → length message ≤ 37 → exchange_check message ≡ record { answer = 0; right = ends_in_pec message }
+inside : (message : List ℕ) → 2 ≤ length message → length message ≤ 37 → exchange_check message ≡ Ok (ends_in_pec message)
 inside message h l = simp (le-ltb (length message) 2 h, le-ltb 37 (length message) l)
 
 pub accepts_right : AcceptsRight
 accepts_right message h l = (
-  λ e. (omega (arith, h), ap (λ (c : Checked). c.right) (sym (inside message h l) ∙ e)),
-  λ r. inside message h l ∙ ap (λ (b : Bool). record { answer = 0; right = b }) r.1,
+  λ e. let same = inside message h l in (omega (arith, h), cc),
+  λ r. inside message h l ∙ ap Ok r.1,
 )
 
 -- what a reader sent followed by what it heard is right

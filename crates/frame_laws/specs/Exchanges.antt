@@ -1,6 +1,6 @@
 -- A reader's exchanges, with any request and any body: the theorems of `proofs/Replies.antt`.
 -- Assumes nothing.
-use Rattle.std.specs.Prelude.{ℕ, ◌+◌, ◌-◌, ◌%◌, ◌≤◌, ◌<◌, true, ◌≡◌, ◌⊎◌, ◌↔◌, List, ◌++◌, length, get_or}
+use Rattle.std.specs.Prelude.{ℕ, ◌+◌, ◌-◌, ◌%◌, ◌≤◌, ◌<◌, true, ◌≡◌, ◌⊎◌, ◌↔◌, List, ◌++◌, length, get_or, Ok}
 use Rattle.words.specs.Words.{joined}
 use Rattle.pec.specs.Messages.{Right, exchange_check, bits_apart}
 use Rattle.pec_laws.specs.Places.{Apart}
@@ -11,9 +11,9 @@ use Rattle.frame.specs.Transactions.{read_bytes, word_body, reply_of}
 abbrev pub exchange_of : List ℕ → List ℕ → List ℕ
 exchange_of request body = request ++ reply_of request body
 
--- the exchange check accepts a message: answer 0, and right
+-- the exchange check accepts a message: it isn't refused, and it is right
 abbrev pub Accepts : List ℕ → Type 0
-Accepts message = exchange_check message ≡ record { answer = 0; right = true }
+Accepts message = exchange_check message ≡ Ok true
 
 -- of 2 to 37 bytes, exactly the right ones
 abbrev pub AcceptsRight : Type 0

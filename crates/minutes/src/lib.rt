@@ -53,11 +53,7 @@ pub fn time_word(t: Time) -> u16
 fn was_cut_off(t: Time) -> bool
     ensures { result ≡ was_cut_off t }
 {
-    match t {
-        Time::Minutes(_) => false,
-        Time::Beyond => true,
-        Time::NotMoving => false,
-    }
+    matches!(t, Time::Beyond)
 }
 
 // The word of what a register gives.

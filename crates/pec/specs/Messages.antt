@@ -1,11 +1,11 @@
 -- Document 01, PEC: the exchange check and the bit comparison.
 -- Assumes nothing.
-use Rattle.std.specs.Prelude.{Bool, true, false, cond, ◌||◌, not, List, [], ◌∷◌, ◌≡◌, ℕ, ◌+◌, ◌-◌, ◌<◌, eqb, ltb, length, take, get_or}
+use Rattle.std.specs.Prelude.{Bool, true, cond, ◌||◌, not, List, [], ◌∷◌, ◌≡◌, ℕ, ◌+◌, ◌-◌, ◌<◌, eqb, ltb, length, take, get_or, Result, Ok, Err}
 use Rattle.std.specs.Int.Bits.{bit_xor}
 use Rattle.std.specs.Int.Count.{ones}
 use Rattle.pec.specs.Pec.{pec_of}
-use Rattle.pec.specs.declared.Checked.{Checked}
-use Rattle.pec.specs.declared.Compared.{Compared}
+use Rattle.refusals.specs.declared.Refusal.{Refusal}
+use Rattle.refusals.specs.declared.Refusal.TheVariants.{WrongLength}
 
 -- the last byte is the PEC of those before it (RULES 4.4)
 unfoldable pub ends_in_pec : List ℕ → Bool
@@ -15,12 +15,9 @@ ends_in_pec xs = eqb (get_or xs (length xs - 1) 0) (pec_of (take (length xs - 1)
 abbrev pub Right : List ℕ → Type 0
 Right xs = (0 < length xs) × (ends_in_pec xs ≡ true)
 
--- the exchange check: 15 outside 2 to 37 bytes, else 0 and right or wrong (RULES 1.15, 4.4)
-abbrev pub exchange_check : List ℕ → Checked
-exchange_check xs =
-    cond (ltb (length xs) 2 || ltb 37 (length xs))
-    (record { answer = 15; right = false })
-    (record { answer = 0; right = ends_in_pec xs })
+-- the exchange check: 15 outside 2 to 37 bytes, else right or wrong (RULES 1.15, 4.4)
+abbrev pub exchange_check : List ℕ → Result Bool Refusal
+exchange_check xs = cond (ltb (length xs) 2 || ltb 37 (length xs)) (Err WrongLength) (Ok (ends_in_pec xs))
 
 -- in how many bits two messages differ: the ones of the exclusive or, byte by byte, summed (RULES 4.5)
 unfoldable pub bits_apart : List ℕ → List ℕ → ℕ
@@ -28,9 +25,6 @@ bits_apart [] ys = 0
 bits_apart (x ∷ xs) [] = 0
 bits_apart (x ∷ xs) (y ∷ ys) = ones (bit_xor x y) + bits_apart xs ys
 
--- the bit comparison: 15 for unequal lengths or over 37 bytes, else 0 and the count (RULES 1.15, 4.5)
-abbrev pub bit_comparison : List ℕ → List ℕ → Compared
-bit_comparison xs ys =
-    cond (not (eqb (length xs) (length ys)) || ltb 37 (length xs))
-    (record { answer = 15; bits = 0 })
-    (record { answer = 0; bits = bits_apart xs ys })
+-- the bit comparison: 15 for unequal lengths or over 37 bytes, else the count (RULES 1.15, 4.5)
+abbrev pub bit_comparison : List ℕ → List ℕ → Result ℕ Refusal
+bit_comparison xs ys = cond (not (eqb (length xs) (length ys)) || ltb 37 (length xs)) (Err WrongLength) (Ok (bits_apart xs ys))

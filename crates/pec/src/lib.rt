@@ -6,11 +6,13 @@ ghost use Rattle.pec.specs.Pec.{byte_step, pec_from, pec_of};
 ghost use Rattle.pec.specs.Table.{Remainders};
 ghost use Rattle.pec.specs.Messages.{exchange_check, bits_apart, bit_comparison};
 
+use refusals::Refusal;
+
+// The fewest bytes of an exchange: one and its PEC.
+const SHORTEST: usize = 2;
+
 // The most bytes of an exchange: 16, command, 17, count, 32 bytes and PEC.
 const LONGEST: usize = 37;
-
-// The answer to a message too short or too long, or to two of unequal lengths.
-const REFUSED: u8 = 15;
 
 // The remainder of each byte.
 const TABLE: [u8; 256] = *b"\x00\x07\x0e\x09\x1c\x1b\x12\x15\x38\x3f\x36\x31\x24\x23\x2a\x2d\
@@ -35,7 +37,7 @@ fn entry(table: &[u8; 256], b: u8) -> u8
     requires { Remainders table.now }
     ensures { result ≡ byte_step b }
 {
-    table[b as usize]
+    table[usize::from(b)]
 }
 
 // What stands after more bytes: so a PEC runs over several pieces that are not joined.
@@ -45,10 +47,8 @@ pub fn pec_from(start: u8, s: &[u8]) -> u8
     // Copied once: a constant array is made anew wherever it is read.
     let table = TABLE;
     let mut acc = start;
-    let mut i = 0;
-    while i < s.len() {
-        acc = entry(&table, acc ^ s[i]);
-        i += 1;
+    for b in s {
+        acc = entry(&table, acc ^ *b);
     }
     acc
 }
@@ -60,66 +60,27 @@ pub fn pec(s: &[u8]) -> u8
     pec_from(0, s)
 }
 
-// Answer 15 or 0, and whether the message is right.
-#[derive(Clone, Copy)]
-pub struct Checked {
-    pub answer: u8,
-    pub right: bool,
-}
-
-// The exchange check of what a reader sent followed by what it heard.
-pub fn exchange_check(s: &[u8]) -> Checked
+// The exchange check of what a reader sent followed by what it heard: whether the message is right.
+pub fn exchange_check(s: &[u8]) -> Result<bool, Refusal>
     ensures { result ≡ exchange_check s.now }
 {
     let n = s.len();
-    if n < 2 {
-        return Checked {
-            answer: REFUSED,
-            right: false,
-        };
-    }
-    if n > LONGEST {
-        return Checked {
-            answer: REFUSED,
-            right: false,
-        };
+    if !(SHORTEST..=LONGEST).contains(&n) {
+        return Err(Refusal::WrongLength);
     }
     let last = n - 1;
-    let check = pec(&s[..last]);
-    Checked {
-        answer: 0,
-        right: s[last] == check,
-    }
+    Ok(s[last] == pec(&s[..last]))
 }
 
-// Answer 15 or 0, and in how many bits two messages differ.
-#[derive(Clone, Copy)]
-pub struct Compared {
-    pub answer: u8,
-    pub bits: u32,
-}
-
-// The bit comparison of two messages.
-pub fn bit_comparison(a: &[u8], b: &[u8]) -> Compared
+// The bit comparison of two messages: in how many bits they differ.
+pub fn bit_comparison(a: &[u8], b: &[u8]) -> Result<u32, Refusal>
     ensures { result ≡ bit_comparison a.now b.now }
 {
     let n = a.len();
-    if n != b.len() {
-        return Compared {
-            answer: REFUSED,
-            bits: 0,
-        };
+    if n != b.len() || n > LONGEST {
+        return Err(Refusal::WrongLength);
     }
-    if n > LONGEST {
-        return Compared {
-            answer: REFUSED,
-            bits: 0,
-        };
-    }
-    Compared {
-        answer: 0,
-        bits: bits_apart(a, b),
-    }
+    Ok(bits_apart(a, b))
 }
 
 // The ones of the exclusive or, byte by byte, summed.
@@ -127,11 +88,5 @@ fn bits_apart(a: &[u8], b: &[u8]) -> u32
     requires { (length a.now ≡ length b.now) × (length a.now ≤ 37) }
     ensures { result ≡ bits_apart a.now b.now }
 {
-    let mut sum: u32 = 0;
-    let mut at = 0;
-    while at < a.len() {
-        sum += u8::count_ones(a[at] ^ b[at]);
-        at += 1;
-    }
-    sum
+    a.iter().zip(b).map(|(x, y)| (*x ^ *y).count_ones()).sum()
 }

@@ -1,60 +1,25 @@
--- One turn of the loops over a text, and their ends.
+-- One turn of the loop over a text, two characters at a time, and its end.
 -- Assumes nothing.
-use mathlib.Core.Path.{◌≡◌, refl, sym, ap, ap₂, ◌∙◌}
-use mathlib.Core.Bool.{true, false, ◌&&◌}
-use mathlib.Core.List.{List, [], ◌∷◌}
-use Prim.Native.Nat.{ℕ, suc, ◌+◌, ◌-◌, ◌≤◌, ◌<◌}
-use native.Mathlib.Numerals.{add-one}
+use mathlib.Core.Path.{◌≡◌, sym, ap, ◌∙◌}
+use mathlib.Core.List.{List, [], ◌∷◌, ◌++◌}
+use Prim.Native.Nat.{ℕ, ◌<◌}
 use native.Mathlib.Omega.{arith}
-use borrow.Author.Tests.{lt-ltb, le-ltb}
-use lib.Dec.{ltb}
-use lib.ListN.{length, get_or, drop, drop_of_length-le, length-drop}
-use lib.Seq.{drop-cons}
+use lib.ListN.{length, get_or}
 use Rattle.pec.specs.Pec.{pec_from}
-use Rattle.pec_demo.specs.Hex.{value_of, all_digits, byte_of, bytes_of}
+use Rattle.pec_demo.specs.Hex.{byte_of, bytes_of}
 
-digits_next : (s : List ℕ) (i : ℕ) → i < length s → all_digits (drop i s) ≡ (ltb (value_of (get_or s i 0)) 16 && all_digits (drop (i + 1) s))
-unfolding all_digits
-digits_next s i h =
-    ap all_digits (drop-cons s i 0 h)
-    ∙ ap (λ (n : ℕ). ltb (value_of (get_or s i 0)) 16 && all_digits (drop n s)) (sym (add-one i))
+pub text_next : (pair rest s : List ℕ) (acc b r p : ℕ) → s ≡ pair ++ rest → length pair ≡ 2 → b ≡ byte_of (get_or pair 0 0) (get_or pair 1 0) → r ≡ pec_from acc (b ∷ [])
+    → pec_from acc (bytes_of s) ≡ p
+    → pec_from r (bytes_of rest) ≡ p
+unfolding pec_from bytes_of
+text_next [] rest s acc b r p e l h f q = absurd (omega (arith, l))
+text_next (x ∷ []) rest s acc b r p e l h f q = absurd (omega (arith, l))
+text_next (x ∷ y ∷ []) rest s acc b r p e l h f q =
+    ap (λ (n : ℕ). pec_from n (bytes_of rest)) (f ∙ ap (λ (n : ℕ). pec_from acc (n ∷ [])) h) ∙ ap (λ (t : List ℕ). pec_from acc (bytes_of t)) (sym e) ∙ q
+text_next (x ∷ y ∷ z ∷ zs) rest s acc b r p e l h f q = absurd (omega (arith, l))
 
-pub no_digit : (s : List ℕ) (i r : ℕ) → i < length s → r ≡ value_of (get_or s i 0) → 16 ≤ r → all_digits (drop i s) ≡ all_digits s → all_digits s ≡ false
-no_digit s i r h e k p =
-    sym p ∙ digits_next s i h ∙ ap (λ (b : _). b && all_digits (drop (i + 1) s)) (ap (λ (n : ℕ). ltb n 16) (sym e) ∙ le-ltb r 16 k)
-
-pub a_digit : (s : List ℕ) (i r : ℕ) → i < length s → r ≡ value_of (get_or s i 0) → r < 16 → all_digits (drop i s) ≡ all_digits s
-    → all_digits (drop (i + 1) s) ≡ all_digits s
-a_digit s i r h e k p =
-    sym (digits_next s i h ∙ ap (λ (b : _). b && all_digits (drop (i + 1) s)) (ap (λ (n : ℕ). ltb n 16) (sym e) ∙ lt-ltb r 16 k)) ∙ p
-
-pub digits_end : (s : List ℕ) (i : ℕ) → length s ≤ i → all_digits (drop i s) ≡ all_digits s → all_digits s ≡ true
-unfolding all_digits
-digits_end s i h p = sym p ∙ ap all_digits (drop_of_length-le s h)
-
-bytes_next : (s : List ℕ) (i : ℕ) → i + 1 < length s → bytes_of (drop i s) ≡ byte_of (get_or s i 0) (get_or s (i + 1) 0) ∷ bytes_of (drop (i + 2) s)
-unfolding bytes_of
-bytes_next s i h =
-    ap bytes_of (drop-cons s i 0 (omega arith) ∙ ap (λ (xs : List ℕ). get_or s i 0 ∷ xs) (drop-cons s (suc i) 0 (omega arith)))
-    ∙ ap₂ (λ (m n : ℕ). byte_of (get_or s i 0) (get_or s m 0) ∷ bytes_of (drop n s)) (sym (add-one i)) two
-  where
-    two : suc (suc i) ≡ i + 2
-    two = omega arith
-
-pub text_next : (s : List ℕ) (i acc b r p : ℕ) → i + 1 < length s → b ≡ byte_of (get_or s i 0) (get_or s (i + 1) 0) → r ≡ pec_from acc (b ∷ [])
-    → pec_from acc (bytes_of (drop i s)) ≡ p
-    → pec_from r (bytes_of (drop (i + 2) s)) ≡ p
-unfolding pec_from
-text_next s i acc b r p h e f q =
-    ap (λ (t : ℕ). pec_from t (bytes_of (drop (i + 2) s))) (f ∙ ap (λ (x : ℕ). pec_from acc (x ∷ [])) e)
-    ∙ sym (ap (pec_from acc) (bytes_next s i h)) ∙ q
-
-under_two : (s : List ℕ) → length s < 2 → bytes_of s ≡ []
-unfolding bytes_of
-under_two [] h = refl
-under_two (x ∷ []) h = refl
-under_two (x ∷ y ∷ s) h = absurd (omega arith)
-
-pub text_end : (s : List ℕ) (i acc p : ℕ) → length s - i < 2 → pec_from acc (bytes_of (drop i s)) ≡ p → acc ≡ p
-unfolding pec_from
-text_end s i acc p h q = sym (ap (pec_from acc) (under_two (drop i s) (omega (arith, length-drop i s)))) ∙ q
+pub text_end : (s : List ℕ) (acc p : ℕ) → length s < 2 → pec_from acc (bytes_of s) ≡ p → acc ≡ p
+unfolding pec_from bytes_of
+text_end [] acc p h q = q
+text_end (x ∷ []) acc p h q = q
+text_end (x ∷ y ∷ s) acc p h q = absurd (omega arith)

@@ -2,58 +2,68 @@
 // bytes. With no argument, worked examples 1 to 4.
 #![tactic(auto)]
 
-ghost use Rattle.std.specs.Prelude.{◌≡◌};
+ghost use Rattle.std.specs.Prelude.{◌≡◌, ◌<◌, IfSome};
 ghost use Rattle.pec.specs.Pec.{pec_from};
-ghost use Rattle.pec_demo.specs.Hex.{value_of, fault_of, byte_of, bytes_of};
+ghost use Rattle.pec_demo.specs.Hex.{value_of, all_digits, fault_of, byte_of, bytes_of};
 
 use std::env::FillError;
-use std::io;
 use std::rt::Env;
+use std::{fmt, io};
 
-fn value(c: u8) -> u8
-    ensures { result ≡ value_of c }
-{
-    if c < 0x30 {
-        return 16;
-    }
-    if c < 0x3a {
-        return c - 0x30;
-    }
-    if c < 0x41 {
-        return 16;
-    }
-    if c < 0x47 {
-        return c - 0x37;
-    }
-    if c < 0x61 {
-        return 16;
-    }
-    if c < 0x67 {
-        return c - 0x57;
-    }
-    16
+// What is wrong with an argument.
+#[derive(Clone, Copy)]
+enum Fault {
+    TooLong,
+    NoDigit,
+    OddDigits,
 }
 
-fn fault(text: &[u8]) -> u8
+impl fmt::Display for Fault {
+    fn fmt<W: fmt::Write>(&self, f: &mut fmt::Formatter<W>) -> fmt::Result {
+        match self {
+            Fault::TooLong => write!(f, "is too long"),
+            Fault::NoDigit => write!(f, "has a character that is no hex digit"),
+            Fault::OddDigits => write!(f, "has an odd number of hex digits"),
+        }
+    }
+}
+
+// The value of a hex digit.
+fn value(c: u8) -> Option<u8>
+    ensures is { result ≡ value_of c }
+    ensures small { IfSome result (λ v. v < 16) }
+{
+    match c {
+        b'0'..=b'9' => Some(c - b'0'),
+        b'A'..=b'F' => Some(c - b'A' + 10),
+        b'a'..=b'f' => Some(c - b'a' + 10),
+        _ => None,
+    }
+}
+
+fn all_digits(text: &[u8]) -> bool
+    ensures { result ≡ all_digits text.now }
+{
+    text.iter().all(|c| value(*c).is_some())
+}
+
+// Whether a text is hex.
+fn check(text: &[u8]) -> Result<(), Fault>
     ensures { result ≡ fault_of text.now }
 {
-    let mut i = 0;
-    while i < text.len() {
-        if value(text[i]) >= 16 {
-            return 1;
-        }
-        i += 1;
+    if !all_digits(text) {
+        return Err(Fault::NoDigit);
     }
-    if i % 2 == 1 {
-        return 2;
+    if text.len() % 2 == 1 {
+        return Err(Fault::OddDigits);
     }
-    0
+    Ok(())
 }
 
 fn byte(high: u8, low: u8) -> u8
     ensures { result ≡ byte_of high low }
 {
-    value(high) % 16 * 16 + value(low) % 16
+    value(high).unwrap_or(0) * 16 + value(low).unwrap_or(0)
 }
 
 // The PEC after the bytes of a text.
@@ -61,21 +71,15 @@ fn pec_of_text(start: u8, text: &[u8]) -> u8
     ensures { result ≡ pec_from start (bytes_of text.now) }
 {
     let mut acc = start;
-    let mut i = 0;
-    while 2 <= text.len() - i {
-        let one = [byte(text[i], text[i + 1])];
-        acc = pec::pec_from(acc, &one);
-        i += 2;
+    for pair in text.chunks_exact(2) {
+        acc = pec::pec_from(acc, &[byte(pair[0], pair[1])]);
     }
     acc
 }
 
 fn print_bytes(rt: &impl Print, text: &[u8]) -> io::Result<()> {
-    let mut i = 0;
-    while 2 <= text.len() - i {
-        let b = byte(text[i], text[i + 1]);
-        print!(rt; "{b:02x} ")?;
-        i += 2;
+    for pair in text.chunks_exact(2) {
+        print!(rt; "{:02x} ", byte(pair[0], pair[1]))?;
     }
     Ok(())
 }
@@ -97,10 +101,6 @@ fn examples(rt: &impl Print) -> io::Result<()> {
     example(rt, b"16020a00")
 }
 
-fn complain(rt: &impl Print, i: usize, what: &str) -> io::Result<()> {
-    println!(rt; "argument {i} {what}")
-}
-
 // How many arguments there are, the program's name among them.
 fn arg_count(rt: &impl Env) -> usize {
     for i in 0..usize::MAX {
@@ -111,32 +111,21 @@ fn arg_count(rt: &impl Env) -> usize {
     usize::MAX
 }
 
-// Whether argument i is no hex text; then a line says why.
-fn refused(rt: &(impl Env + Print), i: usize) -> io::Result<bool> {
+// Whether argument i is hex text.
+fn check_argument(rt: &impl Env, i: usize) -> Result<(), Fault> {
     let mut text = [0u8; 4096];
-    let Ok(n) = rt.arg(i, &mut text) else {
-        complain(rt, i, "is too long")?;
-        return Ok(true);
-    };
-    let wrong = fault(&text[..n]);
-    if wrong == 1 {
-        complain(rt, i, "has a character that is no hex digit")?;
-        return Ok(true);
-    }
-    if wrong == 2 {
-        complain(rt, i, "has an odd number of hex digits")?;
-        return Ok(true);
-    }
-    Ok(false)
+    let n = rt.arg(i, &mut text).map_err(|_| Fault::TooLong)?;
+    check(&text[..n])
 }
 
-fn any_refused(rt: &(impl Env + Print), count: usize) -> io::Result<bool> {
+// The first argument that is no hex text, and why it isn't.
+fn first_fault(rt: &impl Env, count: usize) -> Option<(usize, Fault)> {
     for i in 1..count {
-        if refused(rt, i)? {
-            return Ok(true);
+        if let Err(fault) = check_argument(rt, i) {
+            return Some((i, fault));
         }
     }
-    Ok(false)
+    None
 }
 
 // Prints the bytes of argument i, and answers the PEC after them.
@@ -148,7 +137,7 @@ fn taken(rt: &(impl Env + Print), acc: u8, i: usize) -> io::Result<u8> {
 }
 
 fn message(rt: &(impl Env + Print), count: usize) -> io::Result<()> {
-    let mut acc: u8 = 0;
+    let mut acc = 0;
     for i in 1..count {
         acc = taken(rt, acc, i)?;
     }
@@ -160,8 +149,8 @@ fn main(rt: HostRuntime) -> io::Result<()> {
     if count < 2 {
         return examples(&rt);
     }
-    if any_refused(&rt, count)? {
-        return Ok(());
+    match first_fault(&rt, count) {
+        Some((i, fault)) => println!(rt; "argument {i} {fault}"),
+        None => message(&rt, count),
     }
-    message(&rt, count)
 }

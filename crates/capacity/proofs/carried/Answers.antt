@@ -1,6 +1,5 @@
 -- `capacity::carried` meets its contract: the sum fits 32 bits.
 -- Assumes nothing.
-use borrow.Author.Rules.{rules}
 use native.Mathlib.Omega.{arith}
 use Rattle.capacity.proofs.Products.{product16_most}
 use Rattle.capacity.proofs.carried.Goals as goal

@@ -1,6 +1,5 @@
 -- `capacity::fully_discharged` meets its contract: each way out by its tests.
 -- Assumes nothing.
-use borrow.Author.Rules.{rules}
 use borrow.Author.Tests.{le-leb, lt-leb, eq-eqb, ne_eqb}
 use Rattle.capacity.proofs.fully_discharged.Goals as goal
 

@@ -1,7 +1,6 @@
 -- `capacity::percent` meets its contract: 100 times the charge, by the capacity in mA·ms.
 -- Assumes nothing.
 use Prim.Native.Nat.{◌/◌}
-use borrow.Author.Rules.{rules}
 use mathlib.Core.Path.{ap₂, ◌∙◌}
 use native.Mathlib.Nat.{mul_comm}
 use Rattle.capacity.proofs.percent.Goals as goal

@@ -1,6 +1,5 @@
 -- `capacity::product16` meets its contract: a product of two 16-bit factors fits 32 bits.
 -- Assumes nothing.
-use borrow.Author.Rules.{rules}
 use native.Mathlib.Omega.{arith}
 use Rattle.capacity.proofs.Products.{product16_most}
 use Rattle.capacity.proofs.product16.Goals as goal

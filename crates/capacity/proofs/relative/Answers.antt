@@ -1,6 +1,5 @@
 -- `capacity::relative` meets its contract: a percent of at most 100 fits 16 bits.
 -- Assumes nothing.
-use borrow.Author.Rules.{rules}
 use native.Mathlib.Omega.{arith}
 use Rattle.capacity.proofs.Bounds.{percent_most}
 use Rattle.capacity.proofs.relative.Goals as goal

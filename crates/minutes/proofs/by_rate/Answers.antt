@@ -1,7 +1,6 @@
 -- `minutes::by_rate` meets its contract: each way out by its tests.
 -- Assumes nothing.
 use Prim.Native.Nat.{◌/◌}
-use borrow.Author.Rules.{rules}
 use borrow.Author.Tests.{eq-eqb, ne_eqb, lt-ltb, le-ltb}
 use native.Mathlib.Omega.{arith}
 use Rattle.minutes.proofs.by_rate.Goals as goal

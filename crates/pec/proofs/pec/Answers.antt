@@ -1,6 +1,5 @@
 -- `pec::pec` meets its contract.
 -- Assumes nothing.
-use borrow.Author.Rules.{rules}
 use Rattle.pec.specs.Pec.{pec_of}
 use Rattle.pec.proofs.pec.Goals as goal
 

@@ -1,17 +1,18 @@
--- `pec_demo::pec_of_text` meets its contract. The loop's invariant: what is left of the text takes the PEC so far to that of the whole.
+-- `pec_demo::pec_of_text` meets its contract.
 -- Assumes nothing.
-use mathlib.Core.Path.{refl}
-use native.Mathlib.Omega.{arith}
+use Rattle.std.proofs.Common.{arith, ◌≡◌}
+use Rattle.std.specs.Slice.Iter.{chunks_exact_size}
 use Rattle.pec_demo.proofs.Texts.{text_next, text_end}
 use Rattle.pec_demo.proofs.pec_of_text.Goals as goal
 
-pub loop-i-init : goal.loop-i-init
-loop-i-init c = (omega arith, refl)
-
-pub loop-i-preserved : goal.loop-i-preserved
-loop-i-preserved c =
-    let at = c.loop-i in
-    (omega arith, text_next _ at.i at.acc _ _ _ (omega arith) c.byte.ensures c.pec_from-acc.ensures at.invariant.1)
+pub loop-pair-preserved : goal.loop-pair-preserved
+loop-pair-preserved c =
+    let at = c.loop-pair in
+    let step = c.in-Some.ensures.steps in
+    let same : chunks_exact_size c.next.new.self ≡ 2 = omega (arith, step, at.invariant.0) in
+    (same, text_next c.in-Some.pair.now _ _ at.acc _ _ _ step.1.0 (omega (arith, step.1.1, at.invariant.0)) c.byte.ensures c.pec_from-acc.ensures at.invariant.1)
 
 pub returns : goal.returns
-returns c = text_end _ c.loop-i.i _ _ (omega arith) c.loop-i.invariant.1
+returns c =
+    let at = c.loop-pair in
+    text_end _ at.acc _ (omega (arith, c.in-None.ensures.steps, at.invariant.0)) at.invariant.1

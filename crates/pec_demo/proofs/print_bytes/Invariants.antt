@@ -1,10 +1,8 @@
--- `pec_demo::print_bytes` ends, and reads only the text.
+-- `pec_demo::print_bytes` goes by two characters.
 -- Assumes nothing.
-use Rattle.std.proofs.Common.{◌-◌, ◌≤◌, length}
+use Rattle.std.proofs.Common.{◌≡◌}
+use Rattle.std.specs.Slice.Iter.{chunks_exact_size}
 use Rattle.pec_demo.proofs.print_bytes.Given as goal
 
-abbrev pub invariant-loop-i : goal.invariant-loop-i
-invariant-loop-i g l = l.i ≤ length l.text
-
-abbrev pub decreases-loop-i : goal.decreases-loop-i
-decreases-loop-i g l = length l.text - l.i
+abbrev pub invariant-loop-pair : goal.invariant-loop-pair
+invariant-loop-pair g l = chunks_exact_size l.pair-iterator ≡ 2
