@@ -1,7 +1,7 @@
 // The charger's state: what it keeps, the current that it gives, its words and its samples.
 #![tactic(auto)]
 
-ghost use Rattle.std.specs.Prelude.{◌≡◌, cond, ◌+◌, ◌≤◌, min};
+ghost use Rattle.std.specs.Prelude.{◌≡◌};
 ghost use Rattle.charger_state.specs.Charger.{not_yet, set_up_of, sound_of, current_of, status_of, word_of, sample_of};
 
 use pack::{Answered, Latest, Sample};
@@ -41,13 +41,12 @@ pub fn not_yet() -> Asked
 pub fn set_up(first: Sample) -> Charger
     ensures { result ≡ set_up_of first }
 {
-    let latest = pack::latest_of(first);
     Charger {
         ChargingCurrent: not_yet(),
         ChargingVoltage: not_yet(),
         inhibited: false,
         count: 0,
-        latest: latest,
+        latest: pack::latest_of(first),
     }
 }
 
@@ -65,7 +64,7 @@ pub fn current(s: Charger) -> u16
     if !s.ChargingCurrent.taken
         | s.inhibited
         | (s.ChargingCurrent.awaited | s.ChargingVoltage.awaited)
-        | !(s.ChargingVoltage.taken & !(s.ChargingVoltage.word == 0))
+        | !(s.ChargingVoltage.taken & (s.ChargingVoltage.word != 0))
         | (175000 <= s.count)
     {
         return 0;
@@ -75,19 +74,8 @@ pub fn current(s: Charger) -> u16
 
 // ---- samples
 
-// The count stops at 175,000.
-fn count_after(count: u32, elapsed: u32) -> u32
-    requires { count ≤ 175000 }
-    ensures { result ≡ min 175000 (count + elapsed) }
-{
-    if elapsed < 175000 - count {
-        count + elapsed
-    } else {
-        175000
-    }
-}
-
-// A sample: answer 0, or 1 with nothing changed.
+// A sample: answer 0, or 1 with nothing changed. The count stops at 175,000.
+#[tactic(auto, unfolding(crate::specs::Charger::sample_of, crate::specs::Charger::sampled_of))]
 pub fn sample(s: Charger, sample: Sample) -> Answered<Charger>
     ensures { result ≡ sample_of s sample }
 {
@@ -98,40 +86,31 @@ pub fn sample(s: Charger, sample: Sample) -> Answered<Charger>
         };
     }
     let time = clock::elapsed(sample.counter, s.latest.counter);
-    let count = count_after(s.count, time);
-    let latest = pack::latest_of(sample);
-    let mut state = s;
-    state.count = count;
-    state.latest = latest;
     Answered {
         answer: 0,
-        state: state,
+        state: Charger {
+            count: s.count.saturating_add(time).min(175000),
+            latest: pack::latest_of(sample),
+            ..s
+        },
     }
 }
 
 // ---- words
 
-// What a bit adds to a word.
-fn flag(on: bool, weight: u16) -> u16
-    ensures is { result ≡ cond on weight 0 }
-    ensures small { result ≤ weight }
-{
-    if on { weight } else { 0 }
-}
-
 // ChargerStatus; Level 2, with pack and power there, is 0xC010.
 fn status(s: Charger) -> u16
     ensures { result ≡ status_of s }
 {
-    let alarm = flag(
+    let alarm = registers::flag(
         s.ChargingCurrent.awaited | s.ChargingVoltage.awaited,
         0x1000,
     );
     let below = words::falls(s.latest.current) | (s.latest.current < s.ChargingCurrent.word);
-    let current = flag(s.ChargingCurrent.taken & below, 0x0008);
+    let current = registers::flag(s.ChargingCurrent.taken & below, 0x0008);
     let low = s.latest.voltage < s.ChargingVoltage.word;
-    let voltage = flag(s.ChargingVoltage.taken & low, 0x0004);
-    let inhibited = flag(s.inhibited, 0x0001);
+    let voltage = registers::flag(s.ChargingVoltage.taken & low, 0x0004);
+    let inhibited = registers::flag(s.inhibited, 0x0001);
     0xC010 + alarm + current + voltage + inhibited
 }
 

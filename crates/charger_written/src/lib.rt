@@ -19,7 +19,7 @@ fn taken_as(word: u16) -> Asked
 {
     Asked {
         taken: true,
-        word: word,
+        word,
         awaited: false,
     }
 }
@@ -27,43 +27,41 @@ fn taken_as(word: u16) -> Asked
 fn zeroed_if(zero: bool, a: Asked) -> Asked
     ensures { result ≡ zeroed_if zero a }
 {
-    let mut next = a;
-    if zero {
-        next.word = 0;
+    Asked {
+        word: if zero { 0 } else { a.word },
+        ..a
     }
-    next
 }
 
 fn awaited_if(again: bool, a: Asked) -> Asked
     ensures { result ≡ awaited_if again a }
 {
     Asked {
-        taken: a.taken,
-        word: a.word,
         awaited: a.awaited | again,
+        ..a
     }
 }
 
 // ChargerMode. The count goes on.
+#[tactic(auto, unfolding(crate::specs::Written::mode_written))]
 fn mode_written(s: Charger, word: u16) -> Charger
     ensures { result ≡ mode_written s word }
 {
-    let mut state = s;
     if has(word, 0x0004) {
-        let none = charger_state::not_yet();
-        state.ChargingCurrent = none;
-        state.ChargingVoltage = none;
-        state.inhibited = false;
-        return state;
+        return Charger {
+            ChargingCurrent: charger_state::not_yet(),
+            ChargingVoltage: charger_state::not_yet(),
+            inhibited: false,
+            ..s
+        };
     }
-    let inhibited = has(word, 0x0001);
     let zero = has(word, 0x0008);
-    let current = zeroed_if(zero, s.ChargingCurrent);
-    let voltage = zeroed_if(zero, s.ChargingVoltage);
-    state.ChargingCurrent = current;
-    state.ChargingVoltage = voltage;
-    state.inhibited = inhibited;
-    state
+    Charger {
+        ChargingCurrent: zeroed_if(zero, s.ChargingCurrent),
+        ChargingVoltage: zeroed_if(zero, s.ChargingVoltage),
+        inhibited: has(word, 0x0001),
+        ..s
+    }
 }
 
 // AlarmWarning: with bit 15, 14, 13 or 12 both requests must come again.
@@ -71,34 +69,31 @@ fn alarm_written(s: Charger, word: u16) -> Charger
     ensures { result ≡ alarm_written s word }
 {
     let ends = has(word, 0x8000) | has(word, 0x4000) | has(word, 0x2000) | has(word, 0x1000);
-    let current = awaited_if(ends, s.ChargingCurrent);
-    let voltage = awaited_if(ends, s.ChargingVoltage);
-    let mut state = s;
-    state.ChargingCurrent = current;
-    state.ChargingVoltage = voltage;
-    state
+    Charger {
+        ChargingCurrent: awaited_if(ends, s.ChargingCurrent),
+        ChargingVoltage: awaited_if(ends, s.ChargingVoltage),
+        ..s
+    }
 }
 
 // The state after a served write.
+#[tactic(auto, unfolding(crate::specs::Written::charger_written))]
 pub fn written(s: Charger, command: u8, word: u16) -> Charger
     ensures { result ≡ charger_written s command word }
 {
-    let mut state = s;
     match command {
         0x12 => mode_written(s, word),
-        0x14 => {
-            let request = taken_as(word);
-            state.ChargingCurrent = request;
-            state.count = 0;
-            state
-        }
-        0x15 => {
-            let request = taken_as(word);
-            state.ChargingVoltage = request;
-            state.count = 0;
-            state
-        }
+        0x14 => Charger {
+            ChargingCurrent: taken_as(word),
+            count: 0,
+            ..s
+        },
+        0x15 => Charger {
+            ChargingVoltage: taken_as(word),
+            count: 0,
+            ..s
+        },
         0x16 => alarm_written(s, word),
-        _ => state,
+        _ => s,
     }
 }

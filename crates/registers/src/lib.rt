@@ -28,8 +28,7 @@ pub fn average_current(p: Pack) -> u16
     requires { recent_sound p.recent ≡ true }
     ensures { result ≡ average_current p }
 {
-    let recent = p.recent;
-    recent::average(recent, p.latest.current)
+    recent::average(p.recent, p.latest.current)
 }
 
 // A capacity in mAh, in power mode in 10 mWh.
@@ -37,7 +36,7 @@ fn capacity_of(p: Pack, capacity: u16) -> u16
     ensures { result ≡ capacity_of p capacity }
 {
     if p.host.CapacityMode {
-        return capacity::capped(capacity::power(capacity as u64, p.settings.DesignVoltage));
+        return capacity::capped(capacity::power(u64::from(capacity), p.settings.DesignVoltage));
     }
     capacity
 }

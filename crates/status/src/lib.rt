@@ -38,7 +38,7 @@ pub fn battery_status(p: Pack, code: u8) -> u16
     requires { (tank_sound p.tank ≡ true) × (recent_sound p.recent ≡ true) }
     ensures { result ≡ battery_status p code }
 {
-    status_bits(p) + (code as u16)
+    status_bits(p) + u16::from(code)
 }
 
 // The word of an AlarmWarning.

@@ -66,9 +66,9 @@ fn covers_it(p: Pack) -> bool
         let used = capacity::product16(drawn as u16, p.settings.DesignVoltage);
         let held = capacity::product(p.tank.charge, p.settings.DesignVoltage);
         let asked = capacity::product16(rate as u16, 10000) + used;
-        return capacity::product(asked as u64, 10000) <= held;
+        return capacity::product(u64::from(asked), 10000) <= held;
     }
-    capacity::product((rate + drawn) as u64, 10000) <= p.tank.charge
+    capacity::product(u64::from(rate + drawn), 10000) <= p.tank.charge
 }
 
 // 07 AtRateOK.
@@ -88,7 +88,7 @@ fn rate_of(p: Pack, current: u16) -> u32
 {
     let size = words::size(current);
     if p.host.CapacityMode {
-        return capacity::power(size as u64, p.latest.voltage) as u32;
+        return capacity::power(u64::from(size), p.latest.voltage) as u32;
     }
     size
 }
