@@ -6,7 +6,6 @@ ghost use Rattle.std.specs.Prelude.{◌≤◌};
 
 use commands::Transacted;
 use pack::{Sample, State};
-use rooms::wide;
 use start::Setup;
 use std::io;
 
@@ -14,31 +13,21 @@ use std::io;
 
 // The PEC of all bytes but the last.
 fn pec_before_last(message: &[u8]) -> u8 {
-    let n = message.len();
-    if n == 0 {
-        return 0;
+    match message.split_last() {
+        Some((_, before)) => pec::pec(before),
+        None => 0,
     }
-    let last = n - 1;
-    pec::pec(&message[..last])
 }
 
 fn last_byte(message: &[u8]) -> u8 {
-    let n = message.len();
-    if n == 0 {
-        return 0;
-    }
-    message[n - 1]
+    message.last().copied().unwrap_or(0)
 }
 
 fn check(rt: &impl Print, message: &[u8]) -> io::Result<()> {
-    let checked = pec::exchange_check(message);
-    if checked.answer != 0 {
-        return println!(rt; ", refused");
-    }
-    if checked.right {
-        println!(rt; ", right")
-    } else {
-        println!(rt; ", WRONG")
+    match pec::exchange_check(message) {
+        Ok(true) => println!(rt; ", right"),
+        Ok(false) => println!(rt; ", WRONG"),
+        Err(_) => println!(rt; ", refused"),
     }
 }
 
@@ -106,7 +95,7 @@ fn word_of(s: State, command: u8) -> usize {
     let bytes = [0x16u8, command, 0x17];
     let mut room = [0u8; 34];
     call(s, true, &bytes, &mut room);
-    wide(room[0]) + 256 * wide(room[1])
+    rooms::offset(room[0], room[1])
 }
 
 // The word that a command shows after a write.
@@ -121,7 +110,7 @@ fn after(write: &[u8], command: u8) -> usize {
 fn answer(read: bool, bytes: &[u8]) -> usize {
     let mut room = [0u8; 34];
     let out = call(half_full(), read, bytes, &mut room);
-    wide(out.answer)
+    usize::from(out.answer)
 }
 
 fn read_answer(command: u8) -> usize {
@@ -200,17 +189,17 @@ fn date(rt: &impl Print, label: &str) -> io::Result<()> {
 }
 
 fn front(rt: &impl Print, room: &[u8], length: usize) -> io::Result<()> {
-    if length <= room.len() {
-        rt.write_all(&room[..length])?;
+    match room.get(..length) {
+        Some(written) => rt.write_all(written),
+        None => Ok(()),
     }
-    Ok(())
 }
 
 fn key_of(rt: &impl Print, label: &str) -> io::Result<()> {
     let mut room = [0u8; 139];
     let wrote = key_writer::write_key(b"A/B", b"P7", 0x526f, 17, &mut room);
     print!(rt; "{label}: ")?;
-    front(rt, &room, wrote.length)?;
+    front(rt, &room, wrote.unwrap_or(0))?;
     println!(rt)
 }
 
