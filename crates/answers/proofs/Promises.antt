@@ -6,7 +6,7 @@ use mathlib.Core.List.{List, [], ◌∷◌}
 use mathlib.Core.Option.{Option, none, some}
 use mathlib.Core.Path.{◌≡◌, refl, sym, ◌∙◌, ap}
 use native.Mathlib.Omega.{arith}
-use borrow.Author.Tests.{eqb-true, leb-true, leb-false, lt-ltb, le-ltb}
+use borrow.Author.Tests.{leb-true, leb-false, lt-ltb, le-ltb}
 use lib.Dec.{eqb, ltb, leb}
 use lib.ListN.{length, get_or}
 use Rattle.area.specs.Area.{is_area, storable, loaded_of}
@@ -15,13 +15,12 @@ use Rattle.bus.specs.Transact.{pack_side, transact_answer, transact_of}
 use Rattle.capacity.proofs.Bounds.{alike}
 use Rattle.capture.specs.Capture.{is_capture}
 use Rattle.capture.specs.Walk.{opened_of, seen_bad}
-use Rattle.capture_writer.specs.Writer.{capture_wrote, capture_answer, capture_given, given_fit, room_asked}
+use Rattle.capture_writer.specs.Writer.{capture_wrote, capture_given, given_fit, room_asked}
 use Rattle.capture_laws.proofs.Walked.{step_answer}
 use Rattle.charger_state.specs.Charger as charger
 use Rattle.charger.specs.Transact as charger_bus
 use Rattle.charger_state.specs.declared.Charger.{Charger}
 use Rattle.charger_area.specs.Area as charger_area
-use Rattle.rooms.specs.Rooms.{wrote}
 use Rattle.clock.specs.Broadcast.{sample_of}
 use Rattle.commands.specs.Answers.{Side, side_answer, bare, request_answer, read_answer, write_answer}
 use Rattle.commands.specs.Commands.{is_reserved, is_optional, is_block}
@@ -37,18 +36,20 @@ use Rattle.start.specs.SetUp.{set_up_of, set_up_refused}
 use Rattle.pack.specs.declared.Answered.{Answered}
 use Rattle.pack.specs.declared.State.{State}
 use Rattle.clock.specs.declared.Sampled.{Sampled}
-use Rattle.rooms.specs.declared.Wrote.{Wrote}
 use Rattle.capture.specs.declared.Opened.{Opened}
 use Rattle.pec.specs.Messages.{ends_in_pec}
-use Rattle.pec.specs.declared.Checked.{Checked}
-use Rattle.pec.specs.declared.Compared.{Compared}
 use Rattle.pack.specs.Sound.{sound_of}
-use Rattle.sheet.specs.Block.{Part, of_service, of_factory, block_answer, good_sheets, part_of, located_by, located_of}
+use Rattle.refusals.specs.Numbers.{answer_of}
+use Rattle.refusals.specs.declared.Refusal.{Refusal}
+use Rattle.refusals.specs.declared.Refusal.TheVariants.{SmallRoom, WrongForm, BadSheet, NotACapture, TooManyRows, BadRow, BadTag, LongBody, LongSheet}
+use Rattle.sheet.specs.Block.{good_sheets, located_of}
 use Rattle.sheet.specs.declared.Located.{Located}
-use Rattle.sheet_edit.specs.Edit.{holds_sheet, sheet_after, is_name, size_of, edit_answer, edit_of}
+use Rattle.sheet_edit.specs.Edit.{holds_sheet, sheet_after, is_name, size_of, require, edit_of}
 use Rattle.sheet_writer.specs.Writing.{sheet_wrote, writable, short}
-use Rattle.shelf.specs.Shelf.{any_bad}
-use Rattle.shelf.proofs.Steps.{report-answer}
+use Rattle.shelf.specs.Shelf.{any_bad, figures, report_of}
+use Rattle.shelf.specs.declared.Row.{Row}
+use Rattle.shelf_row.specs.declared.Figures.{Figures}
+use Rattle.shelf_table.specs.Table.{rows_in, is_ragged, bytes_told, table_report}
 use Rattle.gauge_laws.proofs.Minutes.{at, ten_exactly}
 use Rattle.thirteen.specs.Commands.{thirteen_kind}
 use Rattle.thirteen.specs.Transact as thirteen_bus
@@ -63,6 +64,7 @@ use Rattle.thirteen_pack.specs.declared.ThirteenState.{ThirteenState}
 use Rattle.answers.specs.Conditions.{command_of, is_denied, side_conditions, is_none, overflows, edit_conditions, table_conditions}
 use Rattle.answers.specs.Lowest.{◌when◌, lowest, all_above, rising, first_holding}
 use Rattle.answers.specs.Promises.{SideLowest, TransactLowest, SetUpLowest, SampleLowest, LoadLowest, StoreLowest, ChargerTransactLowest, ChargerSampleLowest, ChargerLoadLowest, ChargerStoreLowest, ThirteenSetUpLowest, ThirteenTransactLowest, ThirteenSampleLowest, ThirteenLoadLowest, ThirteenStoreLowest, WriteKeyLowest, ReadKeyLowest, FindLowest, UnescapeLowest, BlockLowest, LocateLowest, WriteSheetLowest, EditLowest, OpenLowest, StepLowest, WriteCaptureLowest, ExchangeLowest, ComparisonLowest, ReportLowest, TableReportLowest}
+use Rattle.std.specs.Prelude.{Result, Ok, Err}
 use Rattle.answers.proofs.Lowest.{first_is_lowest}
 use Rattle.bus_laws.proofs.Blocks.{block_number}
 
@@ -136,43 +138,37 @@ thirteen_store_lowest s room = unless 1 (thirteen_area.storable s room)
 
 pub write_key_lowest : WriteKeyLowest
 unfolding key_wrote refused
-write_key_lowest maker device date serial room = answers {A = Wrote} (λ r. r.answer) (refused maker device room) _ _ ∙ one 12 (refused maker device room)
+write_key_lowest maker device date serial room = answers {A = Result ℕ Refusal} answer_of (refused maker device room) _ _ ∙ one 12 (refused maker device room)
 
-read_lowest : (o : Option Parts) → (read_of o).answer ≡ lowest ((13 when is_none o) ∷ [])
+read_lowest : (o : Option Parts) → answer_of (read_of o) ≡ lowest ((13 when is_none o) ∷ [])
 read_lowest none = one 13 true
 read_lowest (some p) = one 13 false
 
 pub read_key_lowest : ReadKeyLowest
 read_key_lowest bytes = read_lowest (read_key bytes)
 
-found_as_read : (o : Option Parts) → (found_of o).answer ≡ (read_of o).answer
+found_as_read : (o : Option Parts) → answer_of (found_of o) ≡ answer_of (read_of o)
 found_as_read none = refl
 found_as_read (some p) = refl
 
 pub find_lowest : FindLowest
 find_lowest bytes = found_as_read (read_key bytes) ∙ read_key_lowest bytes
 
-plain_lowest : (o : Option (List ℕ)) (room : List ℕ) → (plain_wrote o room).answer ≡ lowest ((12 when overflows o room) ∷ (13 when is_none o) ∷ [])
+plain_lowest : (o : Option (List ℕ)) (room : List ℕ) → answer_of (plain_wrote o room) ≡ lowest ((12 when overflows o room) ∷ (13 when is_none o) ∷ [])
 unfolding rising all_above
 plain_lowest none room = two 12 13 false true refl
-plain_lowest (some name) room = answers {A = Wrote} (λ r. r.answer) (ltb (length room) (length name)) _ _ ∙ two 12 13 (ltb (length room) (length name)) false refl
+plain_lowest (some name) room = answers {A = Result ℕ Refusal} answer_of (ltb (length room) (length name)) _ _ ∙ two 12 13 (ltb (length room) (length name)) false refl
 
 pub unescape_lowest : UnescapeLowest
 unescape_lowest part room = plain_lowest (name_in part) room
 
 pub block_lowest : BlockLowest
-unfolding block_answer
-block_lowest service factory = unless 9 (good_sheets service factory)
-
-located_served : (p : Part) → (located_by p).answer ≡ 0
-located_served (of_service a e) = refl
-located_served (of_factory a e) = refl
+block_lowest service factory = block_number service factory ∙ unless 9 (good_sheets service factory)
 
 pub locate_lowest : LocateLowest
 unfolding located_of
 locate_lowest service factory tag =
-    answers {A = Located} (λ r. r.answer) (good_sheets service factory) _ _
-    ∙ ap (λ a. cond (good_sheets service factory) a 9) (located_served (part_of service factory tag))
+    answers {A = Result Located Refusal} answer_of (good_sheets service factory) _ _
     ∙ unless 9 (good_sheets service factory)
 
 -- what isn't at least a number is below it
@@ -191,74 +187,94 @@ not_both false b c h = refl
 pub write_sheet_lowest : WriteSheetLowest
 unfolding sheet_wrote writable
 write_sheet_lowest es room =
-    answers {A = Wrote} (λ r. r.answer) (writable es room) _ _
+    answers {A = Result ℕ Refusal} answer_of (writable es room) _ _
     ∙ unless 12 (writable es room)
     ∙ ap (λ c. lowest ((12 when c) ∷ [])) (not_both (short es) (leb 145 (length room)) (ltb (length room) 145) (not_at_least 145 (length room)))
 
 -- four tests, each passed or the answer
-by_tests : (a b c d : Bool) → cond a (cond b (cond c (cond d 0 20) 19) 18) 9 ≡ first_holding ((9 when not a) ∷ (18 when not b) ∷ (19 when not c) ∷ (20 when not d) ∷ [])
+by_tests : (a b c d : Bool) (n : ℕ)
+    → answer_of (require a BadSheet (require b BadTag (require c LongBody (require d LongSheet (Ok n)))))
+    ≡ first_holding ((9 when not a) ∷ (18 when not b) ∷ (19 when not c) ∷ (20 when not d) ∷ [])
 unfolding first_holding
-by_tests true true true true = refl
-by_tests true true true false = refl
-by_tests true true false d = refl
-by_tests true false c d = refl
-by_tests false b c d = refl
+by_tests true true true true n = refl
+by_tests true true true false n = refl
+by_tests true true false d n = refl
+by_tests true false c d n = refl
+by_tests false b c d n = refl
 
 pub edit_lowest : EditLowest
-unfolding edit_of edit_answer rising all_above
+unfolding edit_of rising all_above
 edit_lowest room stated tag to =
     let new = length (sheet_after room stated tag to) in
-    by_tests (holds_sheet room stated) (is_name tag) (leb (size_of to) 32) (leb new (length room))
+    by_tests (holds_sheet room stated) (is_name tag) (leb (size_of to) 32) (leb new (length room)) new
     ∙ rw (not_at_least (size_of to) 32, not_at_least new (length room)) (sym (first_is_lowest (edit_conditions room stated tag to) refl))
 
 pub open_lowest : OpenLowest
 unfolding opened_of
-open_lowest bytes = answers {A = Opened} (λ r. r.answer) (is_capture bytes) _ _ ∙ unless 14 (is_capture bytes)
+open_lowest bytes = answers {A = Result Opened Refusal} answer_of (is_capture bytes) _ _ ∙ unless 14 (is_capture bytes)
 
 pub step_lowest : StepLowest
 step_lowest bytes row place = step_answer bytes row place ∙ one 14 (seen_bad bytes row place)
 
--- the answer is given as it is, served or refused
-as_it_is : {A : Type 0} (f : A → ℕ) (a : ℕ) (x y : A) → f x ≡ 0 → f y ≡ a → f (cond (eqb a 0) x y) ≡ a
-as_it_is f a x y p q = tested (eqb a 0) refl
-  where
-    tested : (c : Bool) → eqb a 0 ≡ c → f (cond c x y) ≡ a
-    tested true h = p ∙ sym (eqb-true a 0 h)
-    tested false h = q
-
-in_order : (a b : Bool) → ◌≡◌ {A = ℕ} (cond a (cond b 0 14) 2) (cond (not a) 2 (cond (not b) 14 0))
-in_order true true = refl
-in_order true false = refl
-in_order false b = refl
+in_order : (a b : Bool) (n : ℕ)
+    → answer_of (cond {A = Result ℕ Refusal} a (cond b (Ok n) (Err NotACapture)) (Err SmallRoom)) ≡ cond (not a) 2 (cond (not b) 14 0)
+in_order true true n = refl
+in_order true false n = refl
+in_order false b n = refl
 
 pub write_capture_lowest : WriteCaptureLowest
 unfolding capture_wrote rising all_above
 write_capture_lowest marks sizes bodies room =
     let enough = leb (room_asked marks sizes bodies) (length room) in
-    as_it_is {A = Wrote} (λ r. r.answer) (capture_answer marks sizes bodies (length room)) (wrote 0 (length (capture_given marks sizes bodies))) _ refl refl
-    ∙ in_order enough (given_fit marks sizes bodies)
+    in_order enough (given_fit marks sizes bodies) (length (capture_given marks sizes bodies))
     ∙ two 2 14 (not enough) (not (given_fit marks sizes bodies)) refl
     ∙ ap (λ c. lowest ((2 when c) ∷ (14 when not (given_fit marks sizes bodies)) ∷ [])) (not_at_least (room_asked marks sizes bodies) (length room))
 
 pub exchange_lowest : ExchangeLowest
 exchange_lowest bytes =
     let c = ltb (length bytes) 2 || ltb 37 (length bytes) in
-    answers {A = Checked} (λ r. r.answer) c _ _ ∙ one 15 c
+    answers {A = Result Bool Refusal} answer_of c _ _ ∙ one 15 c
 
 pub comparison_lowest : ComparisonLowest
 comparison_lowest xs ys =
     let c = not (eqb (length xs) (length ys)) || ltb 37 (length xs) in
-    answers {A = Compared} (λ r. r.answer) c _ _ ∙ one 15 c
+    answers {A = Result ℕ Refusal} answer_of c _ _ ∙ one 15 c
 
 -- ---- the shelf
 
+-- of a report: too many rows, then a bad one
+reported : (a b : Bool) (f : Figures) → answer_of (cond {A = Result Figures Refusal} a (Err TooManyRows) (cond b (Err BadRow) (Ok f))) ≡ cond a 16 (cond b 17 0)
+reported true b f = refl
+reported false true f = refl
+reported false false f = refl
+
+number_of_report : (rows : List Row) → answer_of (report_of rows) ≡ cond (ltb 64 (length rows)) 16 (cond (any_bad rows) 17 0)
+unfolding report_of
+number_of_report rows = reported (ltb 64 (length rows)) (any_bad rows) (figures rows)
+
 pub report_lowest : ReportLowest
 unfolding rising all_above
-report_lowest rows = report-answer rows ∙ two 16 17 (ltb 64 (length rows)) (any_bad rows) refl
+report_lowest rows = number_of_report rows ∙ two 16 17 (ltb 64 (length rows)) (any_bad rows) refl
+
+-- the bytes told of a report have its number
+told : (r : Result Figures Refusal) → answer_of (bytes_told r) ≡ answer_of r
+told (Ok f) = refl
+told (Err e) = refl
+
+-- of a table: the room, then its form, then its rows
+tabled : (a b : Bool) (r : Result Figures Refusal) → answer_of (cond a (Err SmallRoom) (cond b (Err WrongForm) r)) ≡ cond a 2 (cond b 4 (answer_of r))
+tabled true b r = refl
+tabled false true r = refl
+tabled false false r = refl
 
 pub table_report_lowest : TableReportLowest
 unfolding rising all_above first_holding
-table_report_lowest table room = sym (first_is_lowest (table_conditions table room) refl)
+table_report_lowest table room =
+    let small = ltb (length room) 16 in
+    told (table_report table room)
+    ∙ tabled small (is_ragged table) (report_of (rows_in table))
+    ∙ ap (λ a. cond small 2 (cond (is_ragged table) 4 a)) (number_of_report (rows_in table))
+    ∙ sym (first_is_lowest (table_conditions table room) refl)
 
 -- ---- transactions
 

@@ -4,7 +4,7 @@ use Rattle.std.specs.Prelude.{ℕ, Bool, true, cond, List, ◌≡◌}
 use Rattle.std.proofs.Math.Option.{Option}
 use Rattle.area.specs.Area.{loaded_of, stored_of}
 use Rattle.bus.specs.Transact.{transact_of}
-use Rattle.capture.specs.Walk.{opened_of, step_at, answer_of}
+use Rattle.capture.specs.Walk.{opened_of, step_at}
 use Rattle.capture_writer.specs.Writer.{capture_wrote}
 use Rattle.charger_state.specs.Charger as charger
 use Rattle.charger.specs.Transact as charger_bus
@@ -22,6 +22,7 @@ use Rattle.pack.specs.declared.Sample.{Sample}
 use Rattle.start.specs.declared.Setup.{Setup}
 use Rattle.pack.specs.declared.State.{State}
 use Rattle.pec.specs.Messages.{exchange_check, bit_comparison}
+use Rattle.refusals.specs.Numbers.{answer_of}
 use Rattle.sheet.specs.Block.{block_answer, located_of}
 use Rattle.sheet.specs.Sheet.{Entry}
 use Rattle.sheet_edit.specs.Edit.{edit_of}
@@ -102,51 +103,51 @@ ThirteenStoreLowest = (s : ThirteenState) (room : List ℕ) → thirteen_area.st
 
 -- `write_key`, `read_key`, `find`, `unescape`
 abbrev pub WriteKeyLowest : Type 0
-WriteKeyLowest = (maker device : List ℕ) (date serial : ℕ) (room : List ℕ) → (key_wrote maker device date serial room).answer ≡ lowest (write_key_conditions maker device room)
+WriteKeyLowest = (maker device : List ℕ) (date serial : ℕ) (room : List ℕ) → answer_of (key_wrote maker device date serial room) ≡ lowest (write_key_conditions maker device room)
 
 abbrev pub ReadKeyLowest : Type 0
-ReadKeyLowest = (bytes : List ℕ) → (read_of (read_key bytes)).answer ≡ lowest (read_key_conditions bytes)
+ReadKeyLowest = (bytes : List ℕ) → answer_of (read_of (read_key bytes)) ≡ lowest (read_key_conditions bytes)
 
 abbrev pub FindLowest : Type 0
-FindLowest = (bytes : List ℕ) → (found_of (read_key bytes)).answer ≡ lowest (read_key_conditions bytes)
+FindLowest = (bytes : List ℕ) → answer_of (found_of (read_key bytes)) ≡ lowest (read_key_conditions bytes)
 
 abbrev pub UnescapeLowest : Type 0
-UnescapeLowest = (part room : List ℕ) → (plain_wrote (name_in part) room).answer ≡ lowest (unescape_conditions part room)
+UnescapeLowest = (part room : List ℕ) → answer_of (plain_wrote (name_in part) room) ≡ lowest (unescape_conditions part room)
 
 -- `block_answer`, `locate`, `write_sheet`
 abbrev pub BlockLowest : Type 0
-BlockLowest = (service factory : List ℕ) → block_answer service factory ≡ lowest (block_conditions service factory)
+BlockLowest = (service factory : List ℕ) → answer_of (block_answer service factory) ≡ lowest (block_conditions service factory)
 
 abbrev pub LocateLowest : Type 0
-LocateLowest = (service factory : List ℕ) (tag : ℕ) → (located_of service factory tag).answer ≡ lowest (block_conditions service factory)
+LocateLowest = (service factory : List ℕ) (tag : ℕ) → answer_of (located_of service factory tag) ≡ lowest (block_conditions service factory)
 
 abbrev pub WriteSheetLowest : Type 0
-WriteSheetLowest = (es : List Entry) (room : List ℕ) → (sheet_wrote es room).answer ≡ lowest (write_sheet_conditions es room)
+WriteSheetLowest = (es : List Entry) (room : List ℕ) → answer_of (sheet_wrote es room) ≡ lowest (write_sheet_conditions es room)
 
 -- `set` and `remove`
 abbrev pub EditLowest : Type 0
-EditLowest = (room : List ℕ) (stated tag : ℕ) (to : Option (List ℕ)) → (edit_of room stated tag to).answer ≡ lowest (edit_conditions room stated tag to)
+EditLowest = (room : List ℕ) (stated tag : ℕ) (to : Option (List ℕ)) → answer_of (edit_of room stated tag to) ≡ lowest (edit_conditions room stated tag to)
 
 -- `open`, `step_at`, `write_capture`
 abbrev pub OpenLowest : Type 0
-OpenLowest = (bytes : List ℕ) → (opened_of bytes).answer ≡ lowest (capture_conditions bytes)
+OpenLowest = (bytes : List ℕ) → answer_of (opened_of bytes) ≡ lowest (capture_conditions bytes)
 
 abbrev pub StepLowest : Type 0
 StepLowest = (bytes : List ℕ) (row place : ℕ) → answer_of (step_at bytes row place) ≡ lowest (step_conditions bytes row place)
 
 abbrev pub WriteCaptureLowest : Type 0
-WriteCaptureLowest = (marks sizes bodies room : List ℕ) → (capture_wrote marks sizes bodies room).answer ≡ lowest (write_capture_conditions marks sizes bodies room)
+WriteCaptureLowest = (marks sizes bodies room : List ℕ) → answer_of (capture_wrote marks sizes bodies room) ≡ lowest (write_capture_conditions marks sizes bodies room)
 
 -- `exchange_check`, `bit_comparison`
 abbrev pub ExchangeLowest : Type 0
-ExchangeLowest = (bytes : List ℕ) → (exchange_check bytes).answer ≡ lowest (exchange_conditions bytes)
+ExchangeLowest = (bytes : List ℕ) → answer_of (exchange_check bytes) ≡ lowest (exchange_conditions bytes)
 
 abbrev pub ComparisonLowest : Type 0
-ComparisonLowest = (xs ys : List ℕ) → (bit_comparison xs ys).answer ≡ lowest (comparison_conditions xs ys)
+ComparisonLowest = (xs ys : List ℕ) → answer_of (bit_comparison xs ys) ≡ lowest (comparison_conditions xs ys)
 
 -- `report`, `write_report`
 abbrev pub ReportLowest : Type 0
-ReportLowest = (rows : List Row) → (report_of rows).answer ≡ lowest (report_conditions rows)
+ReportLowest = (rows : List Row) → answer_of (report_of rows) ≡ lowest (report_conditions rows)
 
 abbrev pub TableReportLowest : Type 0
-TableReportLowest = (table room : List ℕ) → (table_wrote table room).answer ≡ lowest (table_conditions table room)
+TableReportLowest = (table room : List ℕ) → answer_of (table_wrote table room) ≡ lowest (table_conditions table room)
