@@ -82,6 +82,7 @@ pub fn current(s: Charger) -> u16
 // ---- samples
 
 // A sample: answer 0, or 1 with nothing changed. The count stops at 175,000.
+#[tactic(auto, unfolding(crate::specs::Charger::sample_of, crate::specs::Charger::sampled_of))]
 pub fn sample(s: Charger, sample: Sample) -> Sampled
     ensures { result ≡ sample_of s sample }
 {

@@ -43,6 +43,7 @@ fn awaited_if(again: bool, a: Asked) -> Asked
 }
 
 // ChargerMode. The count goes on.
+#[tactic(auto, unfolding(crate::specs::Written::mode_written))]
 fn mode_written(s: Charger, word: u16) -> Charger
     ensures { result ≡ mode_written s word }
 {
@@ -76,6 +77,7 @@ fn alarm_written(s: Charger, word: u16) -> Charger
 }
 
 // The state after a served write.
+#[tactic(auto, unfolding(crate::specs::Written::charger_written))]
 pub fn written(s: Charger, command: u8, word: u16) -> Charger
     ensures { result ≡ charger_written s command word }
 {
