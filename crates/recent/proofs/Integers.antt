@@ -1,6 +1,6 @@
 -- Integers as differences of natural numbers, quotients, and 16-bit words.
 -- Assumes nothing.
-use Rattle.std.proofs.Common.{◌≡◌, ℕ, zero, suc, ◌-◌, ◌*◌, ◌/◌, ◌<◌, ◌≤◌, pos, negsuc, neg_ℤ, mul_comm, arith, w16, w32, to_z, of_z, le-ltb, lt-ltb}
+use Rattle.std.proofs.Common.{◌≡◌, ℕ, zero, suc, ◌-◌, ◌*◌, ◌/◌, ◌<◌, ◌≤◌, pos, negsuc, neg_ℤ, mul_comm, arith, w16, of_z, le-ltb, lt-ltb}
 use native.Mathlib.Nat.{div-le_of_le-mul}
 use lib.IntN.{sub_ℕ}
 

@@ -15,7 +15,11 @@ pub fn sampled(h: Host, t: Timers, elapsed: u32) -> Timers
     Timers {
         hold: t.hold.saturating_sub(elapsed),
         alarm: t.alarm.saturating_add(elapsed).min(10000),
-        charger: if h.ChargerMode { 0 } else { t.charger.saturating_add(elapsed).min(30000) },
+        charger: if h.ChargerMode {
+            0
+        } else {
+            t.charger.saturating_add(elapsed).min(30000)
+        },
     }
 }
 

@@ -1,6 +1,5 @@
 -- `registers::absolute_state_of_charge` meets its contract.
 -- Assumes nothing.
-use borrow.Author.Rules.{rules}
 use native.Mathlib.Omega.{arith}
 use Rattle.pack.proofs.Soundness.{settings_facts, tank_facts}
 use Rattle.registers.proofs.absolute_state_of_charge.Goals as goal

@@ -1,6 +1,5 @@
 -- `registers::design_capacity` meets its contract.
 -- Assumes nothing.
-use borrow.Author.Rules.{rules}
 use Rattle.registers.specs.Registers.{design_capacity}
 use Rattle.registers.proofs.design_capacity.Goals as goal
 

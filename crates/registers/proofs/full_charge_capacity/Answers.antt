@@ -1,6 +1,5 @@
 -- `registers::full_charge_capacity` meets its contract.
 -- Assumes nothing.
-use borrow.Author.Rules.{rules}
 use Rattle.registers.specs.Registers.{full_charge_capacity}
 use Rattle.registers.proofs.full_charge_capacity.Goals as goal
 

@@ -1,6 +1,5 @@
 -- `registers::relative_state_of_charge` meets its contract.
 -- Assumes nothing.
-use native.Mathlib.Omega.{arith}
 use Rattle.pack.proofs.Soundness.{tank_facts}
 use Rattle.registers.proofs.relative_state_of_charge.Goals as goal
 

@@ -1,6 +1,5 @@
 -- `registers::remaining_capacity` meets its contract.
 -- Assumes nothing.
-use borrow.Author.Rules.{rules}
 use native.Mathlib.Omega.{arith}
 use Rattle.pack.proofs.Soundness.{tank_facts}
 use Rattle.registers.specs.Registers.{remaining_capacity}

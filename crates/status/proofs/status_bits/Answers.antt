@@ -1,6 +1,5 @@
 -- `status::status_bits` meets its contract: flag by flag.
 -- Assumes nothing.
-use borrow.Author.Rules.{rules}
 use native.Mathlib.Nat.{zero-add}
 use native.Mathlib.Omega.{arith}
 use Rattle.status.specs.Status.{status_bits}

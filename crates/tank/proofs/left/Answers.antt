@@ -1,6 +1,5 @@
 -- `tank::left` meets its contract.
 -- Assumes nothing.
-use borrow.Author.Rules.{rules}
 use Rattle.tank.proofs.left.Goals as goal
 
 pub returns-then-closed : goal.returns-then-closed

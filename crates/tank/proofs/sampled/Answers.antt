@@ -2,7 +2,6 @@
 -- Assumes nothing.
 use Prim.Native.Nat.{◌≤◌}
 use mathlib.Core.Path.{subst⁻¹}
-use borrow.Author.Rules.{rules}
 use native.Mathlib.Omega.{arith}
 use Rattle.pack.proofs.Soundness.{tank_facts, toward_fact, run_facts}
 use Rattle.tank.specs.Tank.{seen_of, tank_after}

@@ -1,6 +1,5 @@
 -- `times::at_rate_ok` meets its contract.
 -- Assumes nothing.
-use borrow.Author.Rules.{rules}
 use Rattle.times.proofs.at_rate_ok.Goals as goal
 
 pub returns-then-falls : goal.returns-then-falls

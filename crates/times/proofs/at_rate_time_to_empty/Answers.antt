@@ -1,6 +1,5 @@
 -- `times::at_rate_time_to_empty` meets its contract.
 -- Assumes nothing.
-use borrow.Author.Rules.{rules}
 use Rattle.times.proofs.at_rate_time_to_empty.Goals as goal
 
 pub returns : goal.returns

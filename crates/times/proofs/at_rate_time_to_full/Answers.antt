@@ -1,6 +1,5 @@
 -- `times::at_rate_time_to_full` meets its contract.
 -- Assumes nothing.
-use borrow.Author.Rules.{rules}
 use Rattle.times.proofs.at_rate_time_to_full.Goals as goal
 
 pub returns-then-p : goal.returns-then-p

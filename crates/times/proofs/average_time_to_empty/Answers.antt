@@ -1,6 +1,5 @@
 -- `times::average_time_to_empty` meets its contract.
 -- Assumes nothing.
-use borrow.Author.Rules.{rules}
 use Rattle.times.proofs.average_time_to_empty.Goals as goal
 
 pub returns : goal.returns

@@ -1,6 +1,5 @@
 -- `times::average_time_to_full` meets its contract.
 -- Assumes nothing.
-use borrow.Author.Rules.{rules}
 use Rattle.times.proofs.average_time_to_full.Goals as goal
 
 pub returns : goal.returns

@@ -1,6 +1,5 @@
 -- `times::missing_capacity` meets its contract: 0F is never above 10, so the difference is no less than 0.
 -- Assumes nothing.
-use borrow.Author.Rules.{rules}
 use native.Mathlib.Omega.{arith}
 use Rattle.registers.proofs.Laws.{remaining_at_most_full}
 use Rattle.times.proofs.missing_capacity.Goals as goal

@@ -1,6 +1,5 @@
 -- `times::present_discharge` meets its contract.
 -- Assumes nothing.
-use borrow.Author.Rules.{rules}
 use native.Mathlib.Omega.{arith}
 use Rattle.times.proofs.present_discharge.Goals as goal
 

@@ -1,6 +1,5 @@
 -- `times::time_to_empty_at` meets its contract.
 -- Assumes nothing.
-use borrow.Author.Rules.{rules}
 use Rattle.times.proofs.time_to_empty_at.Goals as goal
 
 pub returns : goal.returns
