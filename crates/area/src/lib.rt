@@ -9,7 +9,7 @@ use area_parts::{
     host_in, is_host, is_settings, is_tank, latest_in, put_host, put_latest, put_recent,
     put_settings, put_tank, put_timers, recent_in, settings_in, tank_in, timers_in,
 };
-use numbers::{byte_at, put_number};
+use numbers::{number_at, put_number};
 use pack::{Answered, Pack, State};
 
 // Where each part starts, and the bytes that an area has.
@@ -33,7 +33,7 @@ fn put_state(area: &mut [u8], s: State)
     ensures memory { area.new ≡ area_of s }
     ensures fit { RecentFit s.pack.recent }
 {
-    put_number(area, 0, 1, s.error as u64);
+    put_number(area, 0, 1, u64::from(s.error));
     put_settings(&mut area[SETTINGS..HOST], s.pack.settings);
     put_host(&mut area[HOST..LATEST], s.pack.host);
     put_latest(&mut area[LATEST..TANK], s.pack.latest);
@@ -82,7 +82,7 @@ fn state_in(area: &[u8]) -> State
         timers: timers_in(&area[TIMERS..RECENT]),
     };
     State {
-        error: byte_at(area, 0),
+        error: number_at(area, 0),
         pack: pack,
     }
 }

@@ -6,9 +6,9 @@ ghost use Rattle.numbers.specs.Numbers.{bytes_taken};
 ghost use Rattle.charger_area.specs.Area.{asked_widths, asked_bytes, asked_in, is_asked, charger_length, charger_area_of, charger_in, is_charger_area, zero_charger, loaded, loaded_of, stored_of, stored_room};
 ghost use Rattle.charger_area.specs.Laws.{ChargerFits};
 
-use area_parts::{flag, latest_in, put_latest};
+use area_parts::{latest_in, put_latest};
 use charger_state::{Asked, Charger};
-use numbers::{byte_at, long_at, put_number, word_at};
+use numbers::{number_at, put_number};
 use pack::{Answered, Latest};
 
 // Where each part behind the first starts, and the bytes that an area has.
@@ -28,9 +28,9 @@ fn put_asked(part: &mut [u8], a: Asked)
     requires { length part.old ≡ bytes_taken asked_widths }
     ensures { part.new ≡ asked_bytes a }
 {
-    put_number(part, 0, 2, a.word as u64);
-    part[2] = flag(a.taken);
-    part[3] = flag(a.awaited);
+    put_number(part, 0, 2, u64::from(a.word));
+    part[2] = u8::from(a.taken);
+    part[3] = u8::from(a.awaited);
 }
 
 fn asked_in(part: &[u8]) -> Asked
@@ -38,9 +38,9 @@ fn asked_in(part: &[u8]) -> Asked
     ensures { result ≡ asked_in part.now }
 {
     Asked {
-        taken: byte_at(part, 2) == 1,
-        word: word_at(part, 0),
-        awaited: byte_at(part, 3) == 1,
+        taken: number_at::<u8>(part, 2) == 1,
+        word: number_at(part, 0),
+        awaited: number_at::<u8>(part, 3) == 1,
     }
 }
 
@@ -48,7 +48,7 @@ fn is_asked(part: &[u8]) -> bool
     requires { length part.now ≡ bytes_taken asked_widths }
     ensures { result ≡ is_asked part.now }
 {
-    (byte_at(part, 2) <= 1) & (byte_at(part, 3) <= 1)
+    (number_at::<u8>(part, 2) <= 1) & (number_at::<u8>(part, 3) <= 1)
 }
 
 // ---- the whole
@@ -60,8 +60,8 @@ fn put_state(area: &mut [u8], s: Charger)
 {
     put_asked(&mut area[0..VOLTAGE], s.ChargingCurrent);
     put_asked(&mut area[VOLTAGE..INHIBITED], s.ChargingVoltage);
-    put_number(area, INHIBITED, 1, flag(s.inhibited) as u64);
-    put_number(area, COUNT, 4, s.count as u64);
+    put_number(area, INHIBITED, 1, u64::from(s.inhibited));
+    put_number(area, COUNT, 4, u64::from(s.count));
     put_latest(&mut area[LATEST..LENGTH], s.latest);
 }
 
@@ -87,7 +87,7 @@ pub fn is_area(area: &[u8]) -> bool
     }
     is_asked(&area[0..VOLTAGE])
         & is_asked(&area[VOLTAGE..INHIBITED])
-        & (byte_at(area, INHIBITED) <= 1)
+        & (number_at::<u8>(area, INHIBITED) <= 1)
 }
 
 fn state_in(area: &[u8]) -> Charger
@@ -97,8 +97,8 @@ fn state_in(area: &[u8]) -> Charger
     Charger {
         ChargingCurrent: asked_in(&area[0..VOLTAGE]),
         ChargingVoltage: asked_in(&area[VOLTAGE..INHIBITED]),
-        inhibited: byte_at(area, INHIBITED) == 1,
-        count: long_at(area, COUNT),
+        inhibited: number_at::<u8>(area, INHIBITED) == 1,
+        count: number_at(area, COUNT),
         latest: latest_in(&area[LATEST..LENGTH]),
     }
 }

@@ -6,8 +6,8 @@ ghost use Rattle.numbers.specs.Numbers.{bytes_taken};
 ghost use Rattle.thirteen_area.specs.Area.{fixed_widths, fixed_bytes, fixed_in, cells_widths, cells_bytes, cells_in, level_widths, level_bytes, level_in, is_level, thirteen_length, thirteen_area_of, state_in, is_thirteen_area, loaded, loaded_of, stored_of, stored_room};
 ghost use Rattle.thirteen_pack.specs.Fits.{CellsFit, Fits};
 
-use area_parts::{flag, latest_in, put_latest, put_recent, recent_in};
-use numbers::{byte_at, number_at, put_number, put_words, word_at, words_at};
+use area_parts::{latest_in, put_latest, put_recent, recent_in};
+use numbers::{number_at, numbers_at, put_number, put_numbers};
 use pack::Answered;
 use thirteen_pack::{Fixed, Level, Thirteen, ThirteenState};
 
@@ -30,7 +30,7 @@ fn put_fixed(part: &mut [u8], f: Fixed)
     requires { length part.old ≡ bytes_taken fixed_widths }
     ensures { part.new ≡ fixed_bytes f }
 {
-    put_words(
+    put_numbers(
         part,
         0,
         &[f.DesignCapacity, f.DesignVoltage, f.StateOfHealth],
@@ -42,9 +42,9 @@ fn fixed_in(part: &[u8]) -> Fixed
     ensures { result ≡ fixed_in part.now }
 {
     Fixed {
-        DesignCapacity: word_at(part, 0),
-        DesignVoltage: word_at(part, 2),
-        StateOfHealth: word_at(part, 4),
+        DesignCapacity: number_at(part, 0),
+        DesignVoltage: number_at(part, 2),
+        StateOfHealth: number_at(part, 4),
     }
 }
 
@@ -55,7 +55,7 @@ fn put_cells(part: &mut [u8], cells: [u16; 13])
     ensures memory { part.new ≡ cells_bytes cells }
     ensures fit { CellsFit cells }
 {
-    put_words(part, 0, &cells);
+    put_numbers(part, 0, &cells);
 }
 
 fn cells_in(part: &[u8]) -> [u16; 13]
@@ -63,7 +63,7 @@ fn cells_in(part: &[u8]) -> [u16; 13]
     ensures { result ≡ cells_in part.now }
 {
     let mut cells = [0u16; 13];
-    words_at(part, 0, &mut cells);
+    numbers_at(part, 0, &mut cells);
     cells
 }
 
@@ -74,8 +74,8 @@ fn put_level(part: &mut [u8], l: Level)
     ensures { part.new ≡ level_bytes l }
 {
     put_number(part, 0, 8, l.charge);
-    put_number(part, 8, 2, l.full as u64);
-    part[10] = flag(l.FullyDischarged);
+    put_number(part, 8, 2, u64::from(l.full));
+    part[10] = u8::from(l.FullyDischarged);
 }
 
 fn level_in(part: &[u8]) -> Level
@@ -83,9 +83,9 @@ fn level_in(part: &[u8]) -> Level
     ensures { result ≡ level_in part.now }
 {
     Level {
-        charge: number_at(part, 0, 8),
-        full: word_at(part, 8),
-        FullyDischarged: byte_at(part, 10) == 1,
+        charge: number_at(part, 0),
+        full: number_at(part, 8),
+        FullyDischarged: number_at::<u8>(part, 10) == 1,
     }
 }
 
@@ -93,7 +93,7 @@ fn is_level(part: &[u8]) -> bool
     requires { length part.now ≡ bytes_taken level_widths }
     ensures { result ≡ is_level part.now }
 {
-    byte_at(part, 10) <= 1
+    number_at::<u8>(part, 10) <= 1
 }
 
 // ---- the whole
@@ -104,7 +104,7 @@ fn put_state(area: &mut [u8], s: ThirteenState)
     ensures fit { Fits s }
 {
     let cells = s.pack.cells;
-    put_number(area, 0, 1, s.error as u64);
+    put_number(area, 0, 1, u64::from(s.error));
     put_fixed(&mut area[FIXED..LATEST], s.pack.fixed);
     put_latest(&mut area[LATEST..CELLS], s.pack.latest);
     put_cells(&mut area[CELLS..LEVEL], cells);
@@ -150,7 +150,7 @@ fn state_in(area: &[u8]) -> ThirteenState
         recent: recent_in(&area[RECENT..LENGTH]),
     };
     ThirteenState {
-        error: byte_at(area, 0),
+        error: number_at(area, 0),
         pack: pack,
     }
 }

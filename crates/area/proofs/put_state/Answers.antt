@@ -7,7 +7,7 @@ pub returns : goal.returns
 returns c =
     record {
       memory = state_laid c.args.area.now c.args.s c.requires
-          c.put_number.ensures
+          (rw c.from.ensures at c.put_number.ensures)
           c.put_settings.ensures
           c.put_host.ensures
           c.put_latest.ensures

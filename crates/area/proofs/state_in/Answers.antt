@@ -13,5 +13,5 @@ returns c =
       c.recent_in.ensures,
       c.tank_in.ensures,
       c.timers_in.ensures,
-      c.byte_at.ensures,
+      c.number_at.ensures,
     )

@@ -3,4 +3,4 @@
 use Rattle.charger_area.proofs.asked_in.Goals as goal
 
 pub returns : goal.returns
-returns c = rw (c.byte_at.ensures, c.word_at.ensures, c.byte_at-2.ensures)
+returns c = rw (c.number_at.ensures, c.number_at-2.ensures, c.number_at-3.ensures)

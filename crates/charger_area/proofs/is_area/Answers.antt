@@ -8,4 +8,4 @@ pub returns-then-area-ne-LENGTH : goal.returns-then-area-ne-LENGTH
 returns-then-area-ne-LENGTH c = rw (ne_eqb _ _ c.if-area-ne-LENGTH.true)
 
 pub returns : goal.returns
-returns c = rw (eq-eqb _ _ c.if-area-ne-LENGTH.false, c.is_asked.ensures, c.is_asked-2.ensures, c.byte_at.ensures) (simp and-true)
+returns c = rw (eq-eqb _ _ c.if-area-ne-LENGTH.false, c.is_asked.ensures, c.is_asked-2.ensures, c.number_at.ensures) (simp and-true)

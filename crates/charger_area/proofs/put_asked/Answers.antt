@@ -13,5 +13,5 @@ bounds-part-3 c = simp length-set (omega arith)
 
 pub returns : goal.returns
 returns c =
-    rw (c.flag-2.ensures ∙ flag_byte c.args.a.awaited, c.flag.ensures ∙ flag_byte c.args.a.taken, c.put_number.ensures)
+    rw (c.from-3.ensures ∙ flag_byte c.args.a.awaited, c.from-2.ensures ∙ flag_byte c.args.a.taken, c.put_number.ensures, c.from.ensures)
     (whole c.args.part.now (asked_bytes c.args.a) (sym c.requires))

@@ -5,4 +5,4 @@ use Rattle.charger_area.proofs.state_in.Goals as goal
 
 pub returns : goal.returns
 unfolding charger_in
-returns c = rw (c.asked_in.ensures, c.asked_in-2.ensures, c.byte_at.ensures, c.long_at.ensures, c.latest_in.ensures)
+returns c = rw (c.asked_in.ensures, c.asked_in-2.ensures, c.number_at.ensures, c.number_at-2.ensures, c.latest_in.ensures)

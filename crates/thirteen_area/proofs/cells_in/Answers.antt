@@ -5,4 +5,4 @@ use Rattle.thirteen_area.proofs.cells_in.Goals as goal
 
 pub returns : goal.returns
 unfolding cells_in
-returns c = c.words_at.ensures
+returns c = c.numbers_at.ensures

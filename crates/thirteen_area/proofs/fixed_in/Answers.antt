@@ -3,4 +3,4 @@
 use Rattle.thirteen_area.proofs.fixed_in.Goals as goal
 
 pub returns : goal.returns
-returns c = rw (c.word_at.ensures, c.word_at-2.ensures, c.word_at-3.ensures)
+returns c = rw (c.number_at.ensures, c.number_at-2.ensures, c.number_at-3.ensures)

@@ -4,4 +4,4 @@ use mathlib.Core.Bool.{and-true}
 use Rattle.thirteen_area.proofs.is_level.Goals as goal
 
 pub returns : goal.returns
-returns c = rw c.byte_at.ensures (simp and-true)
+returns c = rw c.number_at.ensures (simp and-true)

@@ -7,4 +7,4 @@ use Rattle.thirteen_area.proofs.put_fixed.Goals as goal
 
 pub returns : goal.returns
 returns c =
-    rw c.put_words.ensures.memory (whole c.args.part.now (fixed_bytes c.args.f) (sym c.requires))
+    rw c.put_numbers.ensures.memory (whole c.args.part.now (fixed_bytes c.args.f) (sym c.requires))

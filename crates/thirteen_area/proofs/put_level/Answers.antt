@@ -13,5 +13,5 @@ shape_of-part c =
 
 pub returns : goal.returns
 returns c =
-    rw (c.flag.ensures ∙ flag_byte c.args.l.FullyDischarged, c.put_number-2.ensures, c.put_number.ensures)
+    rw (c.from-2.ensures ∙ flag_byte c.args.l.FullyDischarged, c.put_number-2.ensures, c.from.ensures, c.put_number.ensures)
     (whole c.args.part.now (level_bytes c.args.l) (sym c.requires))

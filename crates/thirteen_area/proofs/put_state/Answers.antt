@@ -10,7 +10,7 @@ returns c =
     record {
       memory =
           state_laid c.args.area.now c.args.s c.requires cell.fit.thirteen
-          c.put_number.ensures
+          (rw c.from.ensures at c.put_number.ensures)
           c.put_fixed.ensures
           c.put_latest.ensures
           cell.memory

@@ -12,5 +12,5 @@ returns c =
       c.cells_in.ensures,
       c.level_in.ensures,
       c.recent_in.ensures,
-      c.byte_at.ensures,
+      c.number_at.ensures,
     )
