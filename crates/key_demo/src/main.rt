@@ -1,10 +1,9 @@
 // Two packs that a dash merges, their keys, and what the reader answers to bytes that aren't a key.
 #![tactic(auto)]
 
-use std::io;
-
 use key::Read;
 use refusals::answer;
+use std::io;
 
 fn line(rt: &impl Print) -> io::Result<()> {
     println!(rt)

@@ -1,32 +1,18 @@
--- The laws of reading names: what plain reading and the escape rule find, byte by byte, and what that says of the bytes. Assumes nothing.
+-- The laws of reading names: what plain reading and the escape rule find after 32 bytes, and what they say of the bytes. Assumes nothing.
 use mathlib.Core.Path.{◌≡◌, refl, sym, ap, ◌∙◌, subst}
 use mathlib.Core.Bool.{Bool, true, false, cond}
 use mathlib.Core.List.{List, [], ◌∷◌, ◌++◌, append_assoc, append-nil}
-use Prim.Native.Nat.{ℕ, suc, ◌+◌, ◌-◌, ◌≤◌, ◌<◌}
-use native.Mathlib.Nat.{add-zero}
-use native.Mathlib.Numerals.{add-one}
+use Prim.Native.Nat.{ℕ, suc, ◌+◌, ◌≤◌, ◌<◌}
 use native.Mathlib.Omega.{arith}
-use lib.Dec.{eqb, leb}
-use lib.ListN.{length, drop, get_or, length-append, drop_of_length-le}
+use lib.Dec.{eqb}
+use lib.ListN.{length, drop, get_or}
 use lib.Seq.{drop-cons}
-use borrow.Author.Tests.{eqb-true, ne_eqb, le-leb, lt-leb}
+use borrow.Author.Tests.{eqb-true, ne_eqb, lt-leb}
 use Rattle.names.specs.Names.{marked, escape_byte, escape, Name, bad, ended, stopped, push, read_plain, read_escaped}
-use Rattle.names.specs.declared.Ending.{Ending}
-use Rattle.names.specs.declared.Ending.TheVariants.{Stopped, Ended, Bad}
+use Rattle.names.specs.declared.Ending.TheVariants.{Bad}
 use Rattle.names.specs.Steps.{ending_of}
 
 -- ---- a byte at a time
-
--- one byte more in front moves the place by the bytes it has in the key
-ending_push : (b : ℕ) (r : Name) (at n : ℕ) → ending_of r (at + length (escape_byte b)) (n + 1) ≡ ending_of (push b r) at n
-ending_push b bad at n = refl
-ending_push b (ended name) at n =
-    let z : n + 1 + length name ≡ n + suc (length name) = omega arith in
-    ap (λ (i : ℕ). cond (leb i 32) (Ended i) Bad) z
-ending_push b (stopped name rest) at n =
-    let z : n + 1 + length name ≡ n + suc (length name) = omega arith in
-    let y : at + length (escape_byte b) + length (escape name) ≡ at + length (escape_byte b ++ escape name) = omega (arith, length-append (escape_byte b) (escape name)) in
-    ap (λ (i : ℕ). cond (leb (n + 1 + length name) 32) (Stopped i) Bad) y ∙ ap (λ (i : ℕ). cond (leb i 32) (Stopped (at + length (escape_byte b ++ escape name))) Bad) z
 
 -- after 32 bytes one byte more is refused
 module _ (at n : ℕ) (h : 32 ≤ n) where
@@ -48,38 +34,8 @@ module _ (at n : ℕ) (h : 32 ≤ n) where
   plain_over b s false = ending-over b (read_plain s)
 
 module _ (k : List ℕ) (at n : ℕ) (h : at < length k) where
-  pub at-stroke : n ≤ 32 → get_or k at 0 ≡ 0x2F → Stopped at ≡ ending_of (read_plain (drop at k)) at n
-  at-stroke l e = rw (drop-cons k at 0 h, e) (rw (add-zero n, le-leb n 32 l, add-zero at))
-
   pub at-over : 32 ≤ n → (get_or k at 0 ≡ 0x2F → ⊥) → Bad ≡ ending_of (read_plain (drop at k)) at n
   at-over l x = rw (drop-cons k at 0 h, ne_eqb _ 0x2F x) (plain_over at n l (get_or k at 0) (drop (suc at) k) (eqb (get_or k at 0) 0x5C))
-
-  pub at_mark : (get_or k at 0 ≡ 0x5C) → {r : Ending} → r ≡ ending_of (read_escaped (drop (at + 1) k)) (at + 1 - 1) n → r ≡ ending_of (read_plain (drop at k)) at n
-  at_mark e hr =
-      let z : at + 1 - 1 ≡ at = omega arith in
-      rw (drop-cons k at 0 h, e) (hr ∙ ap (λ (i : ℕ). ending_of (read_escaped (drop i k)) (at + 1 - 1) n) (add-one at) ∙ ap (λ (i : ℕ). ending_of (read_escaped (drop (suc at) k)) i n) z)
-
-  pub at_other : (get_or k at 0 ≡ 0x2F → ⊥) → (get_or k at 0 ≡ 0x5C → ⊥) → {r : Ending} → r ≡ ending_of (read_plain (drop (at + 1) k)) (at + 1) (n + 1) → r ≡ ending_of (read_plain (drop at k)) at n
-  at_other x y hr =
-      let one : length (escape_byte (get_or k at 0)) ≡ 1 = simp (ne_eqb _ 0x2F x, ne_eqb _ 0x5C y) in
-      rw (drop-cons k at 0 h, ne_eqb _ 0x2F x, ne_eqb _ 0x5C y)
-      (hr ∙ ap (λ (i : ℕ). ending_of (read_plain (drop i k)) (at + 1) (n + 1)) (add-one at) ∙ rw one at (ending_push (get_or k at 0) (read_plain (drop (suc at) k)) at n))
-
-  pub esc-marked : marked (get_or k at 0) ≡ true → 0 < at → {r : Ending} → r ≡ ending_of (read_plain (drop (at + 1) k)) (at + 1) (n + 1) → r ≡ ending_of (read_escaped (drop at k)) (at - 1) n
-  esc-marked m l hr =
-      let z : at + 1 ≡ at - 1 + 2 = omega arith in
-      rw (drop-cons k at 0 h, m)
-      (hr ∙ ap (λ (i : ℕ). ending_of (read_plain (drop i k)) (at + 1) (n + 1)) (add-one at) ∙ ap (λ (i : ℕ). ending_of (read_plain (drop (suc at) k)) i (n + 1)) z
-      ∙ rw m at (ending_push (get_or k at 0) (read_plain (drop (suc at) k)) (at - 1) n))
-
-  pub esc-other : marked (get_or k at 0) ≡ false → Bad ≡ ending_of (read_escaped (drop at k)) (at - 1) n
-  esc-other m = rw (drop-cons k at 0 h, m)
-
-pub at_end : (k : List ℕ) (at n : ℕ) → n ≤ 32 → length k ≤ at → Ended n ≡ ending_of (read_plain (drop at k)) at n
-at_end k at n l h = rw (drop_of_length-le k h) (rw (add-zero n, le-leb n 32 l))
-
-pub esc_end : (k : List ℕ) (at n : ℕ) → length k ≤ at → Bad ≡ ending_of (read_escaped (drop at k)) (at - 1) n
-esc_end k at n h = rw (drop_of_length-le k h)
 
 -- ---- what is read says what the bytes are
 

@@ -3,41 +3,17 @@ use mathlib.Core.Path.{◌≡◌, refl, sym, ap, ◌∙◌}
 use mathlib.Core.Bool.{Bool, true, false, cond}
 use mathlib.Core.List.{List, [], ◌∷◌, ◌++◌, append_assoc}
 use Prim.Native.Nat.{ℕ, ◌+◌, ◌≤◌, ◌<◌}
-use native.Mathlib.Nat.{zero-add}
 use native.Mathlib.Omega.{arith}
 use lib.Dec.{leb}
 use lib.ListN.{length, drop, length-append, length-drop}
 use lib.Seq.{drop-drop, drop_at}
 use borrow.Author.Tests.{leb-true}
 use Rattle.names.specs.Names.{escape, Name, bad, ended, stopped, read_plain}
-use Rattle.std.specs.Prelude.{Option, Some, None}
-use Rattle.names.specs.declared.Ending.{Ending}
-use Rattle.names.specs.declared.Ending.TheVariants.{Stopped, Ended, Bad}
-use Rattle.names.specs.Steps.{ending_of, stroke_of}
+use Rattle.std.specs.Prelude.{Some, None}
+use Rattle.names.specs.Steps.{stroke_of}
 use Rattle.names.proofs.Reading.{Is, plain_is}
 
 -- ---- where a name ends
-
--- what a reading from a name's first byte on tells of its stroke
-abbrev pub told : Ending → Option ℕ
-told (Stopped at) = Some at
-told (Ended n) = None
-told Bad = None
-
-pub stroke_told : (r : Name) (from : ℕ) {e : Ending} → e ≡ ending_of r from 0 → told e ≡ stroke_of r from
-stroke_told bad from h = rw h
-stroke_told (ended name) from h = rw h (short (leb (0 + length name) 32) _)
-  where
-    short : (t : Bool) (n : ℕ) → told (cond t (Ended n) Bad) ≡ None
-    short true n = refl
-    short false n = refl
-stroke_told (stopped name rest) from h = rw (h, zero-add) (short (leb (length name) 32) _)
-  where
-    short : (t : Bool) (n : ℕ) → told (cond t (Stopped n) Bad) ≡ cond t (Some n) None
-    short true n = refl
-    short false n = refl
-
--- ---- what such a place says
 
 pub record Named (k : List ℕ) (from b : ℕ) : Type 0 where
   pub name : List ℕ

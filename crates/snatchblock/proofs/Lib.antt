@@ -1,3 +1,1 @@
-pub mod Bounds
-pub mod Parts
 pub mod Handed

@@ -106,6 +106,6 @@ pub fn cell_bytes(cells: [u16; 13]) -> [u8; 26]
     ensures { result ≡ cell_bytes cells }
 {
     let mut bytes = [0u8; 26];
-    numbers::put_words(&mut bytes, 0, &cells);
+    numbers::put_numbers(&mut bytes, 0, &cells);
     bytes
 }
