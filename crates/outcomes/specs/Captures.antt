@@ -1,6 +1,6 @@
 -- Captures: what comes out of each public function, and what must.
 -- Assumes nothing.
-use Rattle.std.specs.Prelude.{ℕ, Bool, List, [], ◌∷◌}
+use Rattle.std.specs.Prelude.{ℕ, Bool, Option, Result, List, [], ◌∷◌}
 use Rattle.capture.specs.Capture.{is_capture}
 use Rattle.capture.specs.Walk.{body_at, body_place, opened_of, step_at}
 use Rattle.capture.specs.declared.Opened.{Opened}
@@ -9,7 +9,7 @@ use Rattle.capture_writer.specs.Writer.{capture_room, capture_wrote}
 use Rattle.outcomes.specs.Outcome.{Terms, terms_of}
 use Rattle.reader.specs.Reading.{after_of, body_of, body_start, start_of, step_of}
 use Rattle.reader.specs.declared.Reader.{Reader}
-use Rattle.rooms.specs.declared.Wrote.{Wrote}
+use Rattle.refusals.specs.declared.Refusal.{Refusal}
 use Rattle.capture.specs.contracts.is_capture as is_capture_owed
 use Rattle.capture.specs.contracts.«open» as open_owed
 use Rattle.capture.specs.contracts.step_at as step_at_owed
@@ -30,14 +30,14 @@ is_capture_terms = terms_of
 -- `open`
 abbrev pub open_terms : Terms open_owed.ended
 open_terms = terms_of
-    (Opened ∷ [])
+    (Result Opened Refusal ∷ [])
     (λ κs r _. (r, tt))
     (λ κs (s, _). (opened_of s.now, tt))
 
 -- `step_at`
 abbrev pub step_at_terms : Terms step_at_owed.ended
 step_at_terms = terms_of
-    (Step ∷ [])
+    (Result (Option Step) Refusal ∷ [])
     (λ κs r _. (r, tt))
     (λ κs (s, (row, (place, _))). (step_at s.now row place, tt))
 
@@ -58,7 +58,7 @@ start_terms = terms_of
 -- `next`
 abbrev pub next_terms : Terms next_owed.ended
 next_terms = terms_of
-    (Step ∷ [])
+    (Result (Option Step) Refusal ∷ [])
     (λ κs r _. (r, tt))
     (λ κs (r, _). (step_of r, tt))
 
@@ -79,6 +79,6 @@ after_terms = terms_of
 -- `write_capture`
 abbrev pub write_capture_terms : Terms write_capture_owed.ended
 write_capture_terms = terms_of
-    (Wrote ∷ List ℕ ∷ [])
+    (Result ℕ Refusal ∷ List ℕ ∷ [])
     (λ κs r (_, (_, (_, (room, _)))). (r, (room.now, tt)))
     (λ κs (marks, (lengths, (bodies, (room, _)))). (capture_wrote marks.now lengths.now bodies.now room.now, (capture_room marks.now lengths.now bodies.now room.now, tt)))

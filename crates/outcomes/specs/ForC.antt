@@ -9,7 +9,7 @@ use Rattle.key_writer.specs.Writing as writing
 use Rattle.names.specs.Names as names
 use Rattle.outcomes.specs.Outcome.{Terms, terms_of}
 use Rattle.start.specs.SetUp.{set_up_of}
-use Rattle.packed.specs.Packed.{check_number, comparison_number, edited_number, located_number, opened_number, read_number, step_number, wrote_number}
+use Rattle.packed.specs.Packed.{check_number, comparison_number, located_number, opened_number, read_number, step_number, wrote_number}
 use Rattle.pec.specs.Messages.{bit_comparison, exchange_check}
 use Rattle.pec.specs.Pec.{pec_of}
 use Rattle.sheet.specs.Block.{located_of}
@@ -17,7 +17,7 @@ use Rattle.sheet.specs.Sheet.{is_sheet}
 use Rattle.sheet_edit.specs.Edit.{edit_of, room_after}
 use Rattle.sheet_writer.specs.Writing as sheets
 use Rattle.shelf_table.specs.Table.{table_room, table_wrote}
-use Rattle.snatchblock.specs.Given.{sample_with, setup_with, thirteen_setup_with}
+use Rattle.snatchblock.specs.Given.{given_if, sample_with, setup_with, thirteen_setup_with}
 use Rattle.thirteen_calls.specs.Calls as thirteens
 use Rattle.thirteen_pack.specs.SetUp.{set_up_of as thirteen_set_up_of}
 use Rattle.std.proofs.Math.Option.{none, some}
@@ -96,21 +96,21 @@ abbrev pub snatchblock_write_sheet_terms : Terms snatchblock_write_sheet_owed.en
 snatchblock_write_sheet_terms = terms_of
     (ℕ ∷ List ℕ ∷ [])
     (λ κs r (room, (_, (_, (_, (_, (_, (_, (_, (_, _))))))))). (r, (room.now, tt)))
-    (λ κs (room, (has20, (body20, (has21, (body21, (has22, (body22, (has23, (body23, _))))))))). (wrote_number (sheets.sheet_wrote (sheets.choice has20 body20.now has21 body21.now has22 body22.now has23 body23.now) room.now), (sheets.sheet_room (sheets.choice has20 body20.now has21 body21.now has22 body22.now has23 body23.now) room.now, tt)))
+    (λ κs (room, (has20, (body20, (has21, (body21, (has22, (body22, (has23, (body23, _))))))))). (wrote_number (sheets.sheet_wrote (sheets.choice (given_if has20 body20.now) (given_if has21 body21.now) (given_if has22 body22.now) (given_if has23 body23.now)) room.now), (sheets.sheet_room (sheets.choice (given_if has20 body20.now) (given_if has21 body21.now) (given_if has22 body22.now) (given_if has23 body23.now)) room.now, tt)))
 
 -- `snatchblock_set_body`
 abbrev pub snatchblock_set_body_terms : Terms snatchblock_set_body_owed.ended
 snatchblock_set_body_terms = terms_of
     (ℕ ∷ List ℕ ∷ [])
     (λ κs r (room, (_, (_, (_, _)))). (r, (room.now, tt)))
-    (λ κs (room, (stated, (tag, (body, _)))). (edited_number (edit_of room.now stated tag (some body.now)), (room_after room.now stated tag (some body.now), tt)))
+    (λ κs (room, (stated, (tag, (body, _)))). (wrote_number (edit_of room.now stated tag (some body.now)), (room_after room.now stated tag (some body.now), tt)))
 
 -- `snatchblock_remove_body`
 abbrev pub snatchblock_remove_body_terms : Terms snatchblock_remove_body_owed.ended
 snatchblock_remove_body_terms = terms_of
     (ℕ ∷ List ℕ ∷ [])
     (λ κs r (room, (_, (_, _))). (r, (room.now, tt)))
-    (λ κs (room, (stated, (tag, _))). (edited_number (edit_of room.now stated tag none), (room_after room.now stated tag none, tt)))
+    (λ κs (room, (stated, (tag, _))). (wrote_number (edit_of room.now stated tag none), (room_after room.now stated tag none, tt)))
 
 -- `snatchblock_is_sheet`
 abbrev pub snatchblock_is_sheet_terms : Terms snatchblock_is_sheet_owed.ended

@@ -1,11 +1,10 @@
 -- The check byte: what comes out of each public function, and what must.
 -- Assumes nothing.
-use Rattle.std.specs.Prelude.{ℕ, [], ◌∷◌}
+use Rattle.std.specs.Prelude.{ℕ, Bool, Result, [], ◌∷◌}
 use Rattle.outcomes.specs.Outcome.{Terms, terms_of}
 use Rattle.pec.specs.Messages.{bit_comparison, exchange_check}
 use Rattle.pec.specs.Pec.{pec_from, pec_of}
-use Rattle.pec.specs.declared.Checked.{Checked}
-use Rattle.pec.specs.declared.Compared.{Compared}
+use Rattle.refusals.specs.declared.Refusal.{Refusal}
 use Rattle.pec.specs.contracts.pec_from as pec_from_owed
 use Rattle.pec.specs.contracts.pec as pec_owed
 use Rattle.pec.specs.contracts.exchange_check as exchange_check_owed
@@ -28,13 +27,13 @@ pec_terms = terms_of
 -- `exchange_check`
 abbrev pub exchange_check_terms : Terms exchange_check_owed.ended
 exchange_check_terms = terms_of
-    (Checked ∷ [])
+    (Result Bool Refusal ∷ [])
     (λ κs r _. (r, tt))
     (λ κs (s, _). (exchange_check s.now, tt))
 
 -- `bit_comparison`
 abbrev pub bit_comparison_terms : Terms bit_comparison_owed.ended
 bit_comparison_terms = terms_of
-    (Compared ∷ [])
+    (Result ℕ Refusal ∷ [])
     (λ κs r _. (r, tt))
     (λ κs (a, (b, _)). (bit_comparison a.now b.now, tt))

@@ -1,29 +1,53 @@
 -- What is packed above an answer has room there.
 -- Assumes nothing.
-use mathlib.Core.Bool.{not, ◌||◌}
+use mathlib.Core.Bool.{Bool, true, not, ◌||◌}
 use mathlib.Mathlib.Data.Bool.Basic.{or-eq-false-eq-eq-false-and-eq-false}
 use mathlib.Core.List.{List, [], ◌∷◌}
 use mathlib.Core.Option.{Option, none, some}
-use mathlib.Core.Path.{◌≡◌, refl}
+use mathlib.Core.Path.{◌≡◌, refl, subst}
 use Prim.Native.Nat.{ℕ, suc, ◌+◌, ◌*◌, ◌≤◌, ◌<◌}
 use native.Mathlib.Omega.{arith}
 use borrow.Author.Tests.{ltb-false, leb-true}
 use lib.Dec.{eqb, ltb, leb}
 use lib.ListN.{length, get_or}
+use Rattle.std.specs.Prelude.{Result, Ok, Err}
+use Rattle.std.specs.Result.{ForOk}
+use Rattle.refusals.specs.declared.Refusal.{Refusal}
 use Rattle.capture.proofs.Check as capture
+use Rattle.capture.proofs.Steps.{shown}
 use Rattle.capture.specs.Capture.{is_capture, count_in, place_in}
-use Rattle.capture.specs.Walk.{opened_of}
+use Rattle.capture.specs.Walk.{has_row, seen_bad, opened_of, step_at}
 use Rattle.capture.specs.declared.Opened.{Opened}
-use Rattle.names.proofs.Escaping.{escape_length}
 use Rattle.key.proofs.Form.{key_length}
-use Rattle.names.specs.Names.{unescaped, of_key, name_in, plain_wrote}
+use Rattle.key.proofs.Keys.{key_given}
+use Rattle.key.specs.Key.{Parts, read_key, found_of}
 use Rattle.key_writer.specs.Writing.{refused, key_wrote}
-use Rattle.rooms.proofs.Choice.{chosen}
-use Rattle.rooms.specs.declared.Wrote.{Wrote}
-use Rattle.shelf_table.specs.Table.{table_answer, table_wrote}
+use Rattle.names.proofs.Escaping.{escape_length}
+use Rattle.names.specs.Names.{unescaped, of_key, name_in, plain_wrote}
+use Rattle.packed.specs.Packed.{OpenedFits, FoundFits, LocatedFits, RowFits}
 use Rattle.pec.proofs.Loops.{apart_le}
 use Rattle.pec.specs.Messages.{bits_apart, bit_comparison}
-use Rattle.pec.specs.declared.Compared.{Compared}
+use Rattle.rooms.proofs.Choice.{chosen}
+use Rattle.sheet.proofs.Lengths.{at_most_145}
+use Rattle.sheet.proofs.Names.{both, InSheet, part_in}
+use Rattle.sheet.specs.Block.{Part, of_service, of_factory, good_sheets, part_of, located_by, located_of}
+use Rattle.sheet.specs.declared.Located.{Located}
+use Rattle.shelf_table.specs.Table.{bytes_told, table_report, table_wrote}
+
+-- what holds of a value holds of all that its result has
+of_value : {A : Type 0} (P : A → Type 0) {v : A} → P v → ForOk {E = Refusal} (Ok v) P
+of_value P {v} p x e = let same : v ≡ x = cc in subst P same p
+
+-- a refusal has none
+of_refusal : {A : Type 0} (P : A → Type 0) {reason : Refusal} → ForOk (Err reason) P
+of_refusal P x e = absurd (cc)
+
+-- a number that is below 2 to the power 24
+abbrev Small : ℕ → Type 0
+Small n = n < 16777216
+
+abbrev AllSmall : Result ℕ Refusal → Type 0
+AllSmall r = ForOk r Small
 
 -- ---- bits
 
@@ -34,43 +58,47 @@ bits_most (x ∷ a) [] f g = omega arith
 bits_most (x ∷ a) (y ∷ b) f g = omega (arith, apart_le x y (f 0) (g 0), bits_most a b (λ i. f (suc i)) (λ i. g (suc i)))
 
 -- two messages of bytes differ in at most 296 bits
-pub comparison_most : (a b : List ℕ) → ((i : ℕ) → get_or a i 0 < 256) → ((i : ℕ) → get_or b i 0 < 256) → (bit_comparison a b).bits ≤ 296
+pub comparison_most : (a b : List ℕ) → ((i : ℕ) → get_or a i 0 < 256) → ((i : ℕ) → get_or b i 0 < 256) → ForOk (bit_comparison a b) (λ bits. bits < 16777216)
 comparison_most a b f g =
-    chosen (λ (c : Compared). c.bits ≤ 296) (not (eqb (length a) (length b)) || ltb 37 (length a))
-    (λ e. omega arith)
-    (λ e. omega (arith, bits_most a b f g, ltb-false 37 (length a) ((or-eq-false-eq-eq-false-and-eq-false (not (eqb (length a) (length b))) (ltb 37 (length a))).0 e).1))
+    chosen AllSmall (not (eqb (length a) (length b)) || ltb 37 (length a))
+    (λ _. of_refusal Small)
+    (λ e. of_value Small (omega (arith, bits_most a b f g, ltb-false 37 (length a) ((or-eq-false-eq-eq-false-and-eq-false (not (eqb (length a) (length b))) (ltb 37 (length a))).0 e).1)))
 
 -- ---- lengths
 
--- a written key's length
-pub key_most : (maker device : List ℕ) (date serial : ℕ) (room : List ℕ) → (key_wrote maker device date serial room).length ≤ 139
+-- a written key has at most 139 bytes
+pub key_most : (maker device : List ℕ) (date serial : ℕ) (room : List ℕ) → ForOk (key_wrote maker device date serial room) (λ n. n < 16777216)
 unfolding key_wrote refused
 key_most maker device date serial room =
-    chosen (λ (w : Wrote). w.length ≤ 139) (refused maker device room)
-    (λ e. omega arith)
+    chosen AllSmall (refused maker device room)
+    (λ _. of_refusal Small)
     (λ e.
     let r = (or-eq-false-eq-eq-false-and-eq-false (ltb 32 (length maker) || ltb 32 (length device)) (ltb (length room) 139)).0 e in
     let n = (or-eq-false-eq-eq-false-and-eq-false (ltb 32 (length maker)) (ltb 32 (length device))).0 r.0 in
-    omega (arith, key_length maker device date serial, escape_length maker, escape_length device, ltb-false 32 (length maker) n.0, ltb-false 32 (length device) n.1))
+    of_value Small (omega (arith, key_length maker device date serial, escape_length maker, escape_length device, ltb-false 32 (length maker) n.0, ltb-false 32 (length device) n.1)))
 
--- a plain name's length
-pub plain_most : (part room : List ℕ) → (plain_wrote (name_in part) room).length ≤ 32
+-- a plain name has at most 32 bytes
+pub plain_most : (part room : List ℕ) → ForOk (plain_wrote (name_in part) room) (λ n. n < 16777216)
 unfolding name_in
 plain_most part room = go (unescaped part)
   where
-    Small : Option (List ℕ) → Type 0
-    Small o = (plain_wrote o room).length ≤ 32
+    Fits : Option (List ℕ) → Type 0
+    Fits o = AllSmall (plain_wrote o room)
 
-    go : (o : Option (List ℕ)) → Small (of_key o)
-    go none = omega arith
+    go : (o : Option (List ℕ)) → Fits (of_key o)
+    go none = of_refusal Small
     go (some name) =
-        chosen Small (leb (length name) 32)
-        (λ l. chosen (λ (w : Wrote). w.length ≤ 32) (ltb (length room) (length name)) (λ h. omega arith) (λ h. leb-true (length name) 32 l))
-        (λ l. omega arith)
+        chosen Fits (leb (length name) 32)
+        (λ l. chosen AllSmall (ltb (length room) (length name)) (λ _. of_refusal Small) (λ _. of_value Small (omega (arith, leb-true (length name) 32 l))))
+        (λ _. of_refusal Small)
 
--- a shelf's figures
-pub figures_most : (table room : List ℕ) → (table_wrote table room).length ≤ 16
-figures_most table room = chosen (λ (n : ℕ). n ≤ 16) (eqb (table_answer table room) 0) (λ e. omega arith) (λ e. omega arith)
+-- a shelf's figures have 16 bytes
+pub figures_most : (table room : List ℕ) → ForOk (table_wrote table room) (λ n. n < 16777216)
+figures_most table room = go (table_report table room)
+  where
+    go : (r : _) → AllSmall (bytes_told r)
+    go (Ok figures) = of_value Small (omega arith)
+    go (Err reason) = of_refusal Small
 
 -- ---- captures
 
@@ -79,9 +107,44 @@ unfolding place_in
 place_first s = refl
 
 -- an opened capture's rows and first place
-pub opened_most : (s : List ℕ) → ((opened_of s).rows ≤ 255) × ((opened_of s).place ≤ 511)
+pub opened_most : (s : List ℕ) → ForOk (opened_of s) OpenedFits
 unfolding opened_of
 opened_most s =
-    chosen (λ (o : Opened). (o.rows ≤ 255) × (o.place ≤ 511)) (is_capture s)
-    (λ e. let b = (capture.facts s e).byte in (b, omega (arith, b, place_first s)))
-    (λ e. (omega arith, omega arith))
+    chosen (λ (o : Result Opened Refusal). ForOk o OpenedFits) (is_capture s)
+    (λ e. let b = (capture.facts s e).byte in of_value OpenedFits (omega (arith, b), omega (arith, b, place_first s)))
+    (λ _. of_refusal OpenedFits)
+
+-- a row that a step shows lies within the longest capture
+pub step_most : (s : List ℕ) (row place : ℕ) → RowFits place (step_at s row place)
+unfolding step_at
+step_most s row place =
+    chosen (RowFits place) (has_row s row place)
+    (λ h. let r = shown s row place h in (omega arith, omega (arith, r.within, r.most)))
+    (λ _. chosen (RowFits place) (seen_bad s row place) (λ _. tt) (λ _. tt))
+
+-- ---- keys and block names
+
+-- the places that are found in a key rise, within its longest names, escaped
+pub found_most : (k : List ℕ) → ForOk (found_of (read_key k)) FoundFits
+found_most k = go (read_key k) refl
+  where
+    go : (o : Option Parts) → read_key k ≡ o → ForOk (found_of o) FoundFits
+    go none g = of_refusal FoundFits
+    go (some p) g =
+        let fit = (key_given k p g).0 in
+        let m = escape_length p.maker in
+        let d = escape_length p.device in
+        of_value FoundFits (omega (arith, m, fit.maker_fits), omega arith, omega (arith, m, d, fit.maker_fits, fit.device_fits))
+
+-- a block name lies within the longest sheet
+module _ (s f : List ℕ) (tag : ℕ) where
+  by_part : good_sheets s f ≡ true → (p : Part) → InSheet s f p → LocatedFits (located_by p)
+  by_part good (of_service a e) i = (i.rises, omega (arith, i.ends, at_most_145 s (both s f good).0))
+  by_part good (of_factory a e) i = (i.rises, omega (arith, i.ends, at_most_145 f (both s f good).1))
+
+  pub located-most : ForOk (located_of s f tag) LocatedFits
+  unfolding located_of
+  located-most =
+      chosen (λ (l : Result Located Refusal). ForOk l LocatedFits) (good_sheets s f)
+      (λ good. of_value LocatedFits (by_part good (part_of s f tag) (part_in s f tag)))
+      (λ _. of_refusal LocatedFits)

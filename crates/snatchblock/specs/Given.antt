@@ -1,7 +1,12 @@
 -- What C gives one by one, put together. Definitions: assumes nothing.
-use Rattle.std.specs.Prelude.{ℕ, Bool, false, ℤ}
+use Rattle.std.specs.Prelude.{ℕ, Bool, false, cond, List, ℤ}
+use Rattle.std.proofs.Math.Option.{Option, none, some}
 use Rattle.pack.specs.declared.Sample.{Sample}
 use Rattle.start.specs.declared.Setup.{Setup}
+
+-- a body, or none: of an absent one the bytes are ignored (RULES 9.4)
+abbrev pub given_if : Bool → List ℕ → Option (List ℕ)
+given_if has body = cond has (some body) none
 
 abbrev pub sample_with : ℕ → ℤ → ℕ → ℕ → Sample
 sample_with voltage current temperature counter =

@@ -10,7 +10,7 @@ ghost use Rattle.key.specs.Key as keys;
 ghost use Rattle.key_writer.specs.Writing as writing;
 ghost use Rattle.names.specs.Names as names;
 ghost use Rattle.start.specs.SetUp.{set_up_of};
-ghost use Rattle.packed.specs.Packed.{check_number, comparison_number, wrote_number, edited_number, opened_number, read_number, located_number, step_number};
+ghost use Rattle.packed.specs.Packed.{check_number, comparison_number, wrote_number, opened_number, read_number, located_number, step_number};
 ghost use Rattle.pec.specs.Messages.{exchange_check, bit_comparison};
 ghost use Rattle.pec.specs.Pec.{pec_of};
 ghost use Rattle.sheet.specs.Block.{located_of};
@@ -18,11 +18,10 @@ ghost use Rattle.sheet.specs.Sheet.{is_sheet};
 ghost use Rattle.sheet_edit.specs.Edit.{edit_of, room_after};
 ghost use Rattle.sheet_writer.specs.Writing as sheets;
 ghost use Rattle.shelf_table.specs.Table.{table_wrote, table_room};
-ghost use Rattle.snatchblock.specs.Given.{sample_with, setup_with, thirteen_setup_with};
+ghost use Rattle.snatchblock.specs.Given.{given_if, sample_with, setup_with, thirteen_setup_with};
 ghost use Rattle.thirteen_calls.specs.Calls as thirteens;
 ghost use Rattle.thirteen_pack.specs.SetUp.{set_up_of as thirteen_set_up_of};
 
-use key::Read;
 use pack::Sample;
 use start::Setup;
 
@@ -69,13 +68,7 @@ pub extern "C" fn snatchblock_write_key(
 pub extern "C" fn snatchblock_read_key(key: &[u8]) -> u64
     ensures { result ≡ read_number (keys.read_key key.now) }
 {
-    let f = key::find(key);
-    let read = Read {
-        answer: f.answer,
-        date: f.date,
-        serial: f.serial,
-    };
-    packed::key_read(read, f.maker_end, f.device_end - f.device_start)
+    packed::key_read(key::find(key))
 }
 
 #[unsafe(no_mangle)]
@@ -100,29 +93,32 @@ pub extern "C" fn snatchblock_write_sheet(
     has23: bool,
     body23: &[u8],
 ) -> u32
-    ensures value { result ≡ wrote_number (sheets.sheet_wrote (sheets.choice has20 body20.now has21 body21.now has22 body22.now has23 body23.now) room.old) }
-    ensures room_after { room.new ≡ sheets.sheet_room (sheets.choice has20 body20.now has21 body21.now has22 body22.now has23 body23.now) room.old }
+    ensures value { result ≡ wrote_number (sheets.sheet_wrote (sheets.choice (given_if has20 body20.now) (given_if has21 body21.now) (given_if has22 body22.now) (given_if has23 body23.now)) room.old) }
+    ensures room_after { room.new ≡ sheets.sheet_room (sheets.choice (given_if has20 body20.now) (given_if has21 body21.now) (given_if has22 body22.now) (given_if has23 body23.now)) room.old }
 {
-    let w = sheet_writer::write_sheet(
-        room, has20, body20, has21, body21, has22, body22, has23, body23,
-    );
-    packed::wrote(w)
+    let body20 = has20.then_some(body20);
+    let body21 = has21.then_some(body21);
+    let body22 = has22.then_some(body22);
+    let body23 = has23.then_some(body23);
+    packed::wrote(sheet_writer::write_sheet(
+        room, body20, body21, body22, body23,
+    ))
 }
 
 #[unsafe(no_mangle)]
 pub extern "C" fn snatchblock_set_body(room: &mut [u8], stated: usize, tag: u8, body: &[u8]) -> u32
-    ensures value { result ≡ edited_number (edit_of room.old stated tag (some body.now)) }
+    ensures value { result ≡ wrote_number (edit_of room.old stated tag (some body.now)) }
     ensures room_after { room.new ≡ room_after room.old stated tag (some body.now) }
 {
-    packed::edited(sheet_edit::set(room, stated, tag, body))
+    packed::wrote(sheet_edit::set(room, stated, tag, body))
 }
 
 #[unsafe(no_mangle)]
 pub extern "C" fn snatchblock_remove_body(room: &mut [u8], stated: usize, tag: u8) -> u32
-    ensures value { result ≡ edited_number (edit_of room.old stated tag none) }
+    ensures value { result ≡ wrote_number (edit_of room.old stated tag none) }
     ensures room_after { room.new ≡ room_after room.old stated tag none }
 {
-    packed::edited(sheet_edit::remove(room, stated, tag))
+    packed::wrote(sheet_edit::remove(room, stated, tag))
 }
 
 #[unsafe(no_mangle)]
@@ -167,6 +163,18 @@ pub extern "C" fn snatchblock_shelf_report(table: &[u8], room: &mut [u8]) -> u32
 
 // ---- the pack
 
+// A sample of the four numbers that C gives one by one.
+fn sample_of(voltage: u16, current: i16, temperature: u16, counter: u32) -> Sample
+    ensures { result ≡ sample_with voltage current temperature counter }
+{
+    Sample {
+        voltage,
+        current,
+        temperature,
+        counter,
+    }
+}
+
 #[unsafe(no_mangle)]
 pub extern "C" fn snatchblock_set_up(
     area: &mut [u8],
@@ -192,26 +200,21 @@ pub extern "C" fn snatchblock_set_up(
     ensures area_after { area.new ≡ start_area area.old (set_up_of (setup_with DesignCapacity full remaining DesignVoltage MaxError CycleCount ManufactureDate SerialNumber ChargingCurrent ChargingVoltage TemperatureLimit DischargeLimit plain) (sample_with voltage current temperature counter)) }
 {
     let setup = Setup {
-        DesignCapacity: DesignCapacity,
-        full: full,
-        remaining: remaining,
-        DesignVoltage: DesignVoltage,
-        MaxError: MaxError,
-        CycleCount: CycleCount,
-        ManufactureDate: ManufactureDate,
-        SerialNumber: SerialNumber,
-        ChargingCurrent: ChargingCurrent,
-        ChargingVoltage: ChargingVoltage,
-        TemperatureLimit: TemperatureLimit,
-        DischargeLimit: DischargeLimit,
-        plain: plain,
+        DesignCapacity,
+        full,
+        remaining,
+        DesignVoltage,
+        MaxError,
+        CycleCount,
+        ManufactureDate,
+        SerialNumber,
+        ChargingCurrent,
+        ChargingVoltage,
+        TemperatureLimit,
+        DischargeLimit,
+        plain,
     };
-    let first = Sample {
-        voltage: voltage,
-        current: current,
-        temperature: temperature,
-        counter: counter,
-    };
+    let first = sample_of(voltage, current, temperature, counter);
     calls::set_up(area, setup, first)
 }
 
@@ -235,12 +238,7 @@ pub extern "C" fn snatchblock_sample(
     ensures area_after { area.new ≡ sample_area area.old (sample_with voltage current temperature counter) room.old }
     ensures room_after { room.new ≡ sample_room area.old (sample_with voltage current temperature counter) room.old }
 {
-    let sample = Sample {
-        voltage: voltage,
-        current: current,
-        temperature: temperature,
-        counter: counter,
-    };
+    let sample = sample_of(voltage, current, temperature, counter);
     calls::sample(area, sample, room)
 }
 
@@ -273,12 +271,7 @@ pub extern "C" fn snatchblock_charger_set_up(
     ensures value { result ≡ chargers.start_number area.old }
     ensures area_after { area.new ≡ chargers.start_area area.old (sample_with voltage current temperature counter) }
 {
-    let first = Sample {
-        voltage: voltage,
-        current: current,
-        temperature: temperature,
-        counter: counter,
-    };
+    let first = sample_of(voltage, current, temperature, counter);
     charger_calls::set_up(area, first)
 }
 
@@ -300,12 +293,7 @@ pub extern "C" fn snatchblock_charger_sample(
     ensures value { result ≡ chargers.sample_number area.old (sample_with voltage current temperature counter) }
     ensures area_after { area.new ≡ chargers.sample_area area.old (sample_with voltage current temperature counter) }
 {
-    let sample = Sample {
-        voltage: voltage,
-        current: current,
-        temperature: temperature,
-        counter: counter,
-    };
+    let sample = sample_of(voltage, current, temperature, counter);
     charger_calls::sample(area, sample)
 }
 
@@ -371,12 +359,7 @@ pub extern "C" fn snatchblock_thirteen_set_up(
     ensures area_after { area.new ≡ thirteens.start_area area.old (thirteen_set_up_of (thirteen_setup_with DesignCapacity full remaining DesignVoltage) StateOfHealth (sample_with voltage current temperature counter) cells.now) }
 {
     let setup = thirteen_setup(DesignCapacity, full, remaining, DesignVoltage);
-    let first = Sample {
-        voltage: voltage,
-        current: current,
-        temperature: temperature,
-        counter: counter,
-    };
+    let first = sample_of(voltage, current, temperature, counter);
     let copy = *cells;
     thirteen_calls::set_up(area, setup, StateOfHealth, first, copy)
 }
@@ -400,12 +383,7 @@ pub extern "C" fn snatchblock_thirteen_sample(
     ensures value { result ≡ thirteens.sample_number area.old (sample_with voltage current temperature counter) cells.now }
     ensures area_after { area.new ≡ thirteens.sample_area area.old (sample_with voltage current temperature counter) cells.now }
 {
-    let sample = Sample {
-        voltage: voltage,
-        current: current,
-        temperature: temperature,
-        counter: counter,
-    };
+    let sample = sample_of(voltage, current, temperature, counter);
     let copy = *cells;
     thirteen_calls::sample(area, sample, copy)
 }

@@ -10,7 +10,7 @@ ghost use Rattle.key.specs.Key as keys;
 ghost use Rattle.key_writer.specs.Writing as writing;
 ghost use Rattle.names.specs.Names as names;
 ghost use Rattle.start.specs.SetUp.{set_up_of};
-ghost use Rattle.packed.specs.Packed.{check_number, comparison_number, wrote_number, edited_number, opened_number, read_number, located_number, step_number};
+ghost use Rattle.packed.specs.Packed.{check_number, comparison_number, wrote_number, opened_number, read_number, located_number, step_number};
 ghost use Rattle.pec.specs.Messages.{exchange_check, bit_comparison};
 ghost use Rattle.pec.specs.Pec.{pec_of};
 ghost use Rattle.sheet.specs.Block.{located_of};
@@ -18,7 +18,7 @@ ghost use Rattle.sheet.specs.Sheet.{is_sheet};
 ghost use Rattle.sheet_edit.specs.Edit.{edit_of, room_after};
 ghost use Rattle.sheet_writer.specs.Writing as sheets;
 ghost use Rattle.shelf_table.specs.Table.{table_wrote, table_room};
-ghost use Rattle.snatchblock.specs.Given.{sample_with, setup_with, thirteen_setup_with};
+ghost use Rattle.snatchblock.specs.Given.{given_if, sample_with, setup_with, thirteen_setup_with};
 ghost use Rattle.thirteen_calls.specs.Calls as thirteens;
 ghost use Rattle.thirteen_pack.specs.SetUp.{set_up_of as thirteen_set_up_of};
 
@@ -90,8 +90,8 @@ pub extern "C" fn snatchblock_write_sheet(
     has23: bool,
     body23: &[u8],
 ) -> u32
-    ensures value { result ≡ wrote_number (sheets.sheet_wrote (sheets.choice has20 body20.now has21 body21.now has22 body22.now has23 body23.now) room.old) }
-    ensures room_after { room.new ≡ sheets.sheet_room (sheets.choice has20 body20.now has21 body21.now has22 body22.now has23 body23.now) room.old }
+    ensures value { result ≡ wrote_number (sheets.sheet_wrote (sheets.choice (given_if has20 body20.now) (given_if has21 body21.now) (given_if has22 body22.now) (given_if has23 body23.now)) room.old) }
+    ensures room_after { room.new ≡ sheets.sheet_room (sheets.choice (given_if has20 body20.now) (given_if has21 body21.now) (given_if has22 body22.now) (given_if has23 body23.now)) room.old }
 {
     snatchblock::snatchblock_write_sheet(
         room, has20, body20, has21, body21, has22, body22, has23, body23,
@@ -100,7 +100,7 @@ pub extern "C" fn snatchblock_write_sheet(
 
 #[unsafe(no_mangle)]
 pub extern "C" fn snatchblock_set_body(room: &mut [u8], stated: usize, tag: u8, body: &[u8]) -> u32
-    ensures value { result ≡ edited_number (edit_of room.old stated tag (some body.now)) }
+    ensures value { result ≡ wrote_number (edit_of room.old stated tag (some body.now)) }
     ensures room_after { room.new ≡ room_after room.old stated tag (some body.now) }
 {
     snatchblock::snatchblock_set_body(room, stated, tag, body)
@@ -108,7 +108,7 @@ pub extern "C" fn snatchblock_set_body(room: &mut [u8], stated: usize, tag: u8, 
 
 #[unsafe(no_mangle)]
 pub extern "C" fn snatchblock_remove_body(room: &mut [u8], stated: usize, tag: u8) -> u32
-    ensures value { result ≡ edited_number (edit_of room.old stated tag none) }
+    ensures value { result ≡ wrote_number (edit_of room.old stated tag none) }
     ensures room_after { room.new ≡ room_after room.old stated tag none }
 {
     snatchblock::snatchblock_remove_body(room, stated, tag)

@@ -1,16 +1,10 @@
 -- `snatchblock::snatchblock_bit_comparison` meets its contract.
 -- Assumes nothing.
-use native.Mathlib.Omega.{arith}
-use mathlib.Core.Path.{ap}
-use Rattle.pec.specs.declared.Compared.{Compared}
 use Rattle.snatchblock.proofs.Bounds.{comparison_most}
 use Rattle.snatchblock.proofs.snatchblock_bit_comparison.Goals as goal
 
 pub compared-requires : goal.compared-requires
-compared-requires c =
-    let a = c.args in
-    let few = comparison_most a.a.now a.b.now (λ i. (c.type_inv.a i).fits) (λ i. (c.type_inv.b i).fits) in
-    omega (arith, ap (λ (r : Compared). r.bits) c.bit_comparison.ensures, few)
+compared-requires c = let a = c.args in rw c.bit_comparison.ensures (comparison_most a.a.now a.b.now (λ i. (c.type_inv.a i).fits) (λ i. (c.type_inv.b i).fits))
 
 pub returns : goal.returns
 returns c = rw (c.compared.ensures, c.bit_comparison.ensures)

@@ -1,10 +1,10 @@
 -- `snatchblock::snatchblock_block` meets its contract.
 -- Assumes nothing.
-use Rattle.snatchblock.proofs.Parts.{located-most}
+use Rattle.snatchblock.proofs.Bounds.{located-most}
 use Rattle.snatchblock.proofs.snatchblock_block.Goals as goal
 
 pub located-requires : goal.located-requires
-located-requires c = located-most _ _ _ c.locate.ensures
+located-requires c = let a = c.args in rw c.locate.ensures (located-most a.service.now a.factory.now a.tag)
 
 pub returns : goal.returns
 returns c = rw (c.located.ensures, c.locate.ensures)

@@ -1,15 +1,17 @@
 -- `snatchblock::snatchblock_set_body` meets its contract.
 -- Assumes nothing.
 use borrow.Author.Rules.{rules}
+use Prim.Native.Nat.{◌≤◌}
 use native.Mathlib.Omega.{arith}
 use Rattle.rooms.proofs.Rooms.{all_bytes}
+use Rattle.std.proofs.lemmas.Result.{IfOk-at_ok}
 use Rattle.sheet_edit.proofs.Answers.{edit_most}
 use Rattle.snatchblock.proofs.snatchblock_set_body.Goals as goal
 
-pub edited-requires : goal.edited-requires
-edited-requires c =
+pub wrote-requires : goal.wrote-requires
+wrote-requires c n is =
     let bytes = all_bytes c.args.room.now (λ i. grind arith) in
-    omega (arith, edit_most _ _ _ _ bytes c.set.ensures.value)
+    omega (arith, IfOk-at_ok (λ l. l ≤ 145) is (edit_most _ _ _ _ bytes _ c.set.ensures.value))
 
 pub returns : goal.returns
-returns c = let made = c.set.ensures in record { value = rw (c.edited.ensures, made.value); room_after = made.room_after }
+returns c = let made = c.set.ensures in record { value = rw (c.wrote.ensures, made.value); room_after = made.room_after }

@@ -1,15 +1,10 @@
 -- `snatchblock::snatchblock_shelf_report` meets its contract.
 -- Assumes nothing.
-use native.Mathlib.Omega.{arith}
-use mathlib.Core.Path.{ap}
-use Rattle.rooms.specs.declared.Wrote.{Wrote}
 use Rattle.snatchblock.proofs.Bounds.{figures_most}
 use Rattle.snatchblock.proofs.snatchblock_shelf_report.Goals as goal
 
 pub wrote-requires : goal.wrote-requires
-wrote-requires c =
-    let a = c.args in
-    omega (arith, ap (λ (w : Wrote). w.length) c.write_report.ensures.value, figures_most a.table.now a.room.now)
+wrote-requires c = let a = c.args in rw c.write_report.ensures.value (figures_most a.table.now a.room.now)
 
 pub returns : goal.returns
 returns c = let written = c.write_report.ensures in record { value = rw (c.wrote.ensures, written.value); room_after = written.room_after }
