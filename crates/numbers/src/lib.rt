@@ -125,8 +125,10 @@ pub fn put_numbers<T: Number>(part: &mut [u8], at: usize, values: &[T])
     ensures memory { part.new ≡ sets part.old at (numbers_bytes (replicate (length values.now) T.WIDTH) (map T.value values.now)) }
     ensures fit { Below (256 ^ T.WIDTH) (map T.value values.now) }
 {
-    for (i, value) in values.iter().enumerate() {
-        put_number(part, at + T::WIDTH * i, T::WIDTH, value.to_number());
+    let mut place = at;
+    for value in values {
+        put_number(part, place, T::WIDTH, value.to_number());
+        place += T::WIDTH;
     }
 }
 
@@ -155,7 +157,9 @@ pub fn numbers_at<T: Number>(part: &[u8], at: usize, values: &mut [T])
     requires { at + T.WIDTH * length values.old ≤ length part.now }
     ensures { values.new ≡ map T.of (numbers_at (replicate (length values.old) T.WIDTH) part.now at) }
 {
-    for (i, value) in values.iter_mut().enumerate() {
-        *value = number_at(part, at + T::WIDTH * i);
+    let mut place = at;
+    for value in values.iter_mut() {
+        *value = number_at(part, place);
+        place += T::WIDTH;
     }
 }

@@ -2,7 +2,6 @@
 use mathlib.Core.Path.{◌≡◌, refl, sym, ap, ◌∙◌}
 use mathlib.Core.Bool.{Bool, true, false, cond, ◌&&◌, and-eq-true_iff, and_assoc, and-true, and-false}
 use mathlib.Core.Logic.{◌⊎◌, inl, inr}
-use Rattle.std.specs.List.{list_all}
 use mathlib.Core.List.{List, [], ◌∷◌, ◌++◌}
 use Prim.Native.Nat.{ℕ, suc, ◌+◌, ◌*◌, ◌≤◌, ◌<◌}
 use native.Mathlib.Omega.{arith}
@@ -89,9 +88,10 @@ one_most tag (some body) = omega arith
 one_most tag none = omega arith
 
 module _ (b c d e : Option (List ℕ)) where
-  pub choice-short : short (choice b c d e) ≡ list_all short_body (b ∷ c ∷ d ∷ e ∷ [])
+  pub choice-short : short (choice b c d e) ≡ short_body b && short_body c && (short_body d && short_body e)
   choice-short =
-      rw (short_append (entry_if 0x20 b) (entry_if 0x21 c ++ (entry_if 0x22 d ++ entry_if 0x23 e)), short_append (entry_if 0x21 c) (entry_if 0x22 d ++ entry_if 0x23 e), short_append (entry_if 0x22 d) (entry_if 0x23 e), one_short 0x20 b, one_short 0x21 c, one_short 0x22 d, one_short 0x23 e, and-true (short_body e))
+      rw (short_append (entry_if 0x20 b) (entry_if 0x21 c ++ (entry_if 0x22 d ++ entry_if 0x23 e)), short_append (entry_if 0x21 c) (entry_if 0x22 d ++ entry_if 0x23 e), short_append (entry_if 0x22 d) (entry_if 0x23 e), one_short 0x20 b, one_short 0x21 c, one_short 0x22 d, one_short 0x23 e)
+      (sym (and_assoc (short_body b) (short_body c) (short_body d && short_body e)))
 
   pub choice-count : length (choice b c d e) ≡ length (entry_if 0x20 b) + length (entry_if 0x21 c) + length (entry_if 0x22 d) + length (entry_if 0x23 e)
   choice-count =

@@ -4,6 +4,7 @@ use Rattle.std.specs.Prelude
 use Rattle.std.proofs.Common.{◌≡◌, ◌⊎◌, inl, inr, cond, false, true, is_some, Some, None, count_by, length, ℕ, ◌<◌, ◌+◌, ◌*◌, List, [], ◌∷◌, ◌++◌, Bool, sym, refl, ◌∙◌, arith}
 use Rattle.std.proofs.Math.Option.{Option}
 use lib.ListN.{set}
+use Rattle.sheet.proofs.Shift.{four_each}
 use Rattle.sheet.specs.Sheet.{Entry}
 use Rattle.sheet_writer.specs.declared.Cursor.{Cursor}
 use Rattle.sheet_writer.specs.Writing.{given, entry_if, choice, short, writable}
@@ -11,15 +12,6 @@ use Rattle.sheet_writer.specs.Laying.{Place, Put}
 use Rattle.refusals.specs.declared.Refusal.TheVariants.{NoFit}
 use Rattle.sheet_writer.proofs.Laid.{choice-short, choice-count, choice-few, Owed, refused, allowed, place-all, place-past, joined, written}
 use Rattle.sheet_writer.proofs.write_sheet.Goals as goal
-
--- a body that there is makes an entry
-one_counted : (tag : ℕ) (b : Prelude.Option (Bor (List ℕ))) → cond (is_some b) 1 0 ≡ length (entry_if tag (given b))
-one_counted tag (Some body) = refl
-one_counted tag None = refl
-
--- byte n counts the entries
-counted : (b c d e : Prelude.Option (Bor (List ℕ))) (n : ℕ) → n ≡ count_by (λ body. is_some body) (b ∷ c ∷ d ∷ e ∷ []) → n ≡ length (choice (given b) (given c) (given d) (given e))
-counted b c d e n is = omega (arith, is, choice-count (given b) (given c) (given d) (given e), one_counted 0x20 b, one_counted 0x21 c, one_counted 0x22 d, one_counted 0x23 e)
 
 module _ (b c d e : Option (List ℕ)) (room : List ℕ) where
   -- the entries, from each tag on
@@ -59,16 +51,15 @@ module _ (b c d e : Option (List ℕ)) (room : List ℕ) where
 pub returns-then-not-all_short : goal.returns-then-not-all_short
 returns-then-not-all_short c =
     let a = c.args in
-    let short_by = c.all_short.ensures ∙ sym (choice-short (given a.body20) (given a.body21) (given a.body22) (given a.body23)) in
-    let r = refusal (given a.body20) (given a.body21) (given a.body22) (given a.body23) a.room.now short_by c.then-not-all_short.either in
+    let r = refusal (given a.body20) (given a.body21) (given a.body22) (given a.body23) a.room.now c.all_short.ensures c.then-not-all_short.either in
     record { value = r.0; room_after = r.1 }
 
 pub returns : goal.returns
 returns c =
     let a = c.args in
     let es : List Entry = choice (given a.body20) (given a.body21) (given a.body22) (given a.body23) in
-    let small = choice-short (given a.body20) (given a.body21) (given a.body22) (given a.body23) ∙ sym c.all_short.ensures ∙ c.if-not-all_short.false in
+    let small = sym c.all_short.ensures ∙ c.if-not-all_short.false in
     let ok = allowed es a.room.now small c.if-room-lt145.false in
-    let n = counted a.body20 a.body21 a.body22 a.body23 _ c.count_of-n.ensures in
-    let r = all (given a.body20) (given a.body21) (given a.body22) (given a.body23) a.room.now ok _ n c.put_entry-past20.ensures c.put_entry-past21.ensures c.put_entry-past22.ensures c.put_entry-past23.ensures in
+    let e = four_each c.count_of-n.result (omega (arith, c.count_of-n.ensures, choice-few (given a.body20) (given a.body21) (given a.body22) (given a.body23))) in
+    let r = all (given a.body20) (given a.body21) (given a.body22) (given a.body23) a.room.now ok _ c.count_of-n.ensures (rw e at c.put_entry-past20.ensures) c.put_entry-past21.ensures c.put_entry-past22.ensures c.put_entry-past23.ensures in
     record { value = r.0; room_after = r.1 }
