@@ -96,12 +96,12 @@ pub extern "C" fn snatchblock_write_sheet(
     ensures value { result ≡ wrote_number (sheets.sheet_wrote (sheets.choice (given_if has20 body20.now) (given_if has21 body21.now) (given_if has22 body22.now) (given_if has23 body23.now)) room.old) }
     ensures room_after { room.new ≡ sheets.sheet_room (sheets.choice (given_if has20 body20.now) (given_if has21 body21.now) (given_if has22 body22.now) (given_if has23 body23.now)) room.old }
 {
-    let body20 = has20.then_some(body20);
-    let body21 = has21.then_some(body21);
-    let body22 = has22.then_some(body22);
-    let body23 = has23.then_some(body23);
     packed::wrote(sheet_writer::write_sheet(
-        room, body20, body21, body22, body23,
+        room,
+        has20.then_some(body20),
+        has21.then_some(body21),
+        has22.then_some(body22),
+        has23.then_some(body23),
     ))
 }
 

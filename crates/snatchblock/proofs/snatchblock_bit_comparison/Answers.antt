@@ -5,6 +5,3 @@ use Rattle.snatchblock.proofs.snatchblock_bit_comparison.Goals as goal
 
 pub compared-requires : goal.compared-requires
 compared-requires c = let a = c.args in rw c.bit_comparison.ensures (comparison_most a.a.now a.b.now (λ i. (c.type_inv.a i).fits) (λ i. (c.type_inv.b i).fits))
-
-pub returns : goal.returns
-returns c = rw (c.compared.ensures, c.bit_comparison.ensures)

@@ -5,6 +5,3 @@ use Rattle.snatchblock.proofs.snatchblock_block.Goals as goal
 
 pub located-requires : goal.located-requires
 located-requires c = let a = c.args in rw c.locate.ensures (located-most a.service.now a.factory.now a.tag)
-
-pub returns : goal.returns
-returns c = rw (c.located.ensures, c.locate.ensures)

@@ -5,6 +5,3 @@ use Rattle.snatchblock.proofs.snatchblock_open_capture.Goals as goal
 
 pub opened-requires : goal.opened-requires
 opened-requires c = let a = c.args in rw c.«open».ensures (opened_most a.bytes.now)
-
-pub returns : goal.returns
-returns c = rw (c.opened.ensures, c.«open».ensures)

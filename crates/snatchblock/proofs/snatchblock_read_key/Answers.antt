@@ -5,6 +5,3 @@ use Rattle.snatchblock.proofs.snatchblock_read_key.Goals as goal
 
 pub key_read-requires : goal.key_read-requires
 key_read-requires c = let a = c.args in rw c.find.ensures (found_most a.key.now)
-
-pub returns : goal.returns
-returns c = rw (c.key_read.ensures, c.find.ensures)

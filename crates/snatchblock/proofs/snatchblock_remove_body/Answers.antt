@@ -12,6 +12,3 @@ pub wrote-requires : goal.wrote-requires
 wrote-requires c n is =
     let bytes = all_bytes c.args.room.now (λ i. grind arith) in
     omega (arith, IfOk-at_ok (λ l. l ≤ 145) is (edit_most _ _ _ _ bytes _ c.remove.ensures.value))
-
-pub returns : goal.returns
-returns c = let made = c.remove.ensures in record { value = rw (c.wrote.ensures, made.value); room_after = made.room_after }

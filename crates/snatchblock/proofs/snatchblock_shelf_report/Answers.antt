@@ -5,6 +5,3 @@ use Rattle.snatchblock.proofs.snatchblock_shelf_report.Goals as goal
 
 pub wrote-requires : goal.wrote-requires
 wrote-requires c = let a = c.args in rw c.write_report.ensures.value (figures_most a.table.now a.room.now)
-
-pub returns : goal.returns
-returns c = let written = c.write_report.ensures in record { value = rw (c.wrote.ensures, written.value); room_after = written.room_after }

@@ -5,6 +5,3 @@ use Rattle.snatchblock.proofs.snatchblock_step_capture.Goals as goal
 
 pub stepped-requires : goal.stepped-requires
 stepped-requires c = let a = c.args in rw c.step_at.ensures (step_most a.bytes.now a.row a.place)
-
-pub returns : goal.returns
-returns c = rw (c.stepped.ensures, c.step_at.ensures)

@@ -5,6 +5,3 @@ use Rattle.snatchblock.proofs.snatchblock_write_key.Goals as goal
 
 pub wrote-requires : goal.wrote-requires
 wrote-requires c = let a = c.args in rw c.write_key.ensures.value (key_most a.maker.now a.device.now a.date a.serial a.room.now)
-
-pub returns : goal.returns
-returns c = let written = c.write_key.ensures in record { value = rw (c.wrote.ensures, written.value); room_after = written.room_after }
