@@ -8,7 +8,8 @@ use commands::Transacted;
 use std::io;
 use std::io::Read;
 
-// Reads until the buffer is full or the input ends, and answers how many bytes came: they stand at its start.
+// Reads until the buffer is full or the input ends, and answers how many bytes came: they stand at its start. A loop, since the
+// library reads to an input's end only into memory that it allocates.
 pub fn read_full(rt: &impl Input, bytes: &mut [u8]) -> io::Result<usize>
     ensures { IfOk result (λ n. n ≤ length bytes.new) }
 {

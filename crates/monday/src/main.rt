@@ -150,20 +150,12 @@ fn step(line: Line, b: u8) -> Line {
 
 // Spaces alone are an empty line.
 fn meaning_of(line: Line) -> Meaning {
-    let after = line.after;
-    let row = line.row;
-    match after {
-        After::Comment => Meaning::Passed,
-        After::Fault => Meaning::Fault,
-        _ => {
-            if line.begun == 0 {
-                return Meaning::Passed;
-            }
-            if line.begun == 4 {
-                return Meaning::Pack(row);
-            }
-            Meaning::Fault
-        }
+    match (line.after, line.begun) {
+        (After::Comment, _) => Meaning::Passed,
+        (After::Fault, _) => Meaning::Fault,
+        (_, 0) => Meaning::Passed,
+        (_, 4) => Meaning::Pack(line.row),
+        _ => Meaning::Fault,
     }
 }
 
@@ -213,16 +205,13 @@ fn read(bytes: &[u8]) -> Table
 {
     let mut t = empty();
     let mut line = beginning();
-    let mut i: usize = 0;
-    while i < bytes.len() {
-        let b = bytes[i];
-        if b == b'\n' {
+    for b in bytes {
+        if *b == b'\n' {
             t = with_line(t, line);
             line = beginning();
         } else {
-            line = step(line, b);
+            line = step(line, *b);
         }
-        i += 1;
     }
     with_line(t, line)
 }
