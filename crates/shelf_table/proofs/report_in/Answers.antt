@@ -1,4 +1,4 @@
-use Rattle.std.proofs.Common.{sym, ◌∙◌, arith}
+use Rattle.std.proofs.Common.{◌≡◌, ◌*◌, ◌%◌, sym, ◌∙◌, arith}
 use Rattle.std.proofs.lemmas.Result.{err_from_is_err_and}
 use Rattle.shelf_table.proofs.Rows.{none-read, too-many, all-read, turn-fits, turn, turn-bad}
 use Rattle.shelf_table.proofs.report_in.Goals as goal
@@ -18,13 +18,15 @@ pub returns-in_err-t-2 : goal.returns-in_err-t-2
 returns-in_err-t-2 c =
     let l = c.loop-i in
     let p = err_from_is_err_and c.from_residual-in_err-t-2.result c.from_residual-in_err-t-2.ensures.1 in
-    let bad = turn-bad c.args.table.now l.i l.invariant (omega arith) c.number_at-remaining.ensures c.number_at-full.ensures c.number_at-design.ensures (sym c.step.ensures ∙ c.in_err-t-2.was) in
+    let e : l.i * 8 % 18446744073709551616 ≡ 8 * l.i = omega arith in
+    let bad = turn-bad c.args.table.now l.i l.invariant (omega arith) (rw e at c.number_at-remaining.ensures) (rw e at c.number_at-full.ensures) (rw e at c.number_at-design.ensures) (sym c.step.ensures ∙ c.in_err-t-2.was) in
     rw (p.1, p.2) (sym bad)
 
 pub loop-i-preserved : goal.loop-i-preserved
 loop-i-preserved c =
     let l = c.loop-i in
-    turn c.args.table.now l.i l.invariant (omega arith) c.number_at-remaining.ensures c.number_at-full.ensures c.number_at-design.ensures (omega arith) (omega arith) (sym c.step.ensures ∙ c.in_ok-t-2.was)
+    let e : l.i * 8 % 18446744073709551616 ≡ 8 * l.i = omega arith in
+    turn c.args.table.now l.i l.invariant (omega arith) (rw e at c.number_at-remaining.ensures) (rw e at c.number_at-full.ensures) (rw e at c.number_at-design.ensures) (omega arith) (omega arith) (sym c.step.ensures ∙ c.in_ok-t-2.was)
 
 pub returns : goal.returns
 returns c = let l = c.loop-i in sym (all-read c.args.table.now l.i l.invariant (omega arith))
