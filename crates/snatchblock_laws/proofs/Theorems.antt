@@ -1,22 +1,17 @@
 -- A refusal shows nothing above its answer.
 -- Assumes nothing.
-use mathlib.Core.Bool.{Bool, true, false, cond, not, ◌||◌, true≢false}
+use mathlib.Core.Bool.{Bool, true, false, cond, true≢false}
 use mathlib.Core.List.{List}
 use mathlib.Core.Option.{Option, none, some}
 use mathlib.Core.Path.{refl}
 use Prim.Native.Nat.{ℕ}
 use native.Mathlib.Omega.{arith}
-use borrow.Author.Tests.{eqb-true}
-use lib.Dec.{eqb, ltb}
 use lib.ListN.{length}
 use Rattle.area.specs.Area.{state_in, is_area, no_state}
 use Rattle.bus.specs.Transact.{pack_side, asked, transact_answer, transact_of}
 use Rattle.calls.specs.Calls.{sample_number, transact_number}
-use Rattle.capture.specs.Capture.{is_capture}
-use Rattle.capture.specs.Walk.{opened_of, step_at, answer_of}
+use Rattle.capture.specs.Walk.{Shows, opened_of, step_at}
 use Rattle.capture.specs.declared.Opened.{Opened}
-use Rattle.capture.specs.declared.Step.{Step}
-use Rattle.capture.specs.declared.Step.TheVariants.{Next, End, NotCapture}
 use Rattle.charger_state.specs.Charger.{current_of}
 use Rattle.charger.specs.Transact as charger
 use Rattle.charger_area.specs.Area.{charger_in, is_charger_area}
@@ -29,19 +24,19 @@ use Rattle.frame.specs.declared.Request.{Request}
 use Rattle.frame.specs.declared.Request.TheVariants.{Refused, Read, Write}
 use Rattle.names.specs.Names.{name_in, plain_wrote}
 use Rattle.key.specs.Key.{Parts, read_key, read_of}
-use Rattle.key_writer.specs.Writing.{refused, key_wrote}
+use Rattle.key_writer.specs.Writing.{key_wrote}
 use Rattle.pack.specs.declared.Sample.{Sample}
 use Rattle.pack.specs.declared.State.{State}
-use Rattle.rooms.proofs.Choice.{chosen}
 use Rattle.packed.specs.Packed.{packed, check_number, comparison_number, opened_number, read_number, located_number, step_number}
-use Rattle.pec.specs.declared.Checked.{Checked}
-use Rattle.pec.specs.declared.Compared.{Compared}
-use Rattle.rooms.specs.Rooms.{wrote}
-use Rattle.sheet.specs.Block.{Part, of_service, of_factory, good_sheets, part_of, located_by, located_of}
+use Rattle.pec.specs.Messages.{exchange_check, bit_comparison}
+use Rattle.refusals.specs.Numbers.{answer_of}
+use Rattle.refusals.specs.declared.Refusal.{Refusal}
+use Rattle.std.specs.Prelude.{Some, None, Result, Ok, Err}
+use Rattle.sheet.specs.Block.{located_of}
 use Rattle.sheet.specs.declared.Located.{Located}
-use Rattle.sheet_edit.specs.Edit.{edit_answer, edit_of}
-use Rattle.sheet_writer.specs.Writing.{writable, sheet_wrote}
-use Rattle.shelf_table.specs.Table.{table_answer}
+use Rattle.sheet_edit.specs.Edit.{edit_of}
+use Rattle.sheet_writer.specs.Writing.{sheet_wrote}
+use Rattle.shelf_table.specs.Table.{table_wrote}
 use Rattle.thirteen.specs.Transact as thirteen
 use Rattle.thirteen_area.specs.Area.{is_thirteen_area, state_in as thirteen_in}
 use Rattle.thirteen_calls.specs.Calls as thirteens
@@ -51,66 +46,68 @@ use Rattle.snatchblock_laws.specs.Bare.{Bare, WroteBare, CheckBare, ComparisonBa
 served_bare : {n : ℕ} → Bare 0 n
 served_bare h = absurd (true≢false h)
 
+-- of a length told
+wrote_bare : (r : Result ℕ Refusal) → WroteBare r
+wrote_bare (Ok n) h = served_bare h
+wrote_bare (Err reason) h = omega arith
+
 pub check_bare : CheckBare
-check_bare xs = chosen (λ (c : Checked). Bare c.answer (check_number c)) (ltb (length xs) 2 || ltb 37 (length xs)) (λ _ _. omega arith) (λ _. served_bare)
+check_bare xs = go (exchange_check xs)
+  where
+    go : (r : Result Bool Refusal) → Bare (answer_of r) (check_number r)
+    go (Ok right) h = served_bare h
+    go (Err reason) h = omega arith
 
 pub comparison_bare : ComparisonBare
-comparison_bare xs ys =
-    chosen (λ (c : Compared). Bare c.answer (comparison_number c)) (not (eqb (length xs) (length ys)) || ltb 37 (length xs)) (λ _ _. omega arith) (λ _. served_bare)
+comparison_bare xs ys = go (bit_comparison xs ys)
+  where
+    go : (r : Result ℕ Refusal) → Bare (answer_of r) (comparison_number r)
+    go (Ok bits) h = served_bare h
+    go (Err reason) h = omega arith
 
 pub key_bare : KeyBare
-unfolding key_wrote
-key_bare maker device date serial room = chosen WroteBare (refused maker device room) (λ _ _. omega arith) (λ _. served_bare)
+key_bare maker device date serial room = wrote_bare (key_wrote maker device date serial room)
 
 pub name_bare : NameBare
-name_bare part room = go (name_in part)
-  where
-    go : (o : Option (List ℕ)) → WroteBare (plain_wrote o room)
-    go none = λ _. refl
-    go (some name) = chosen WroteBare (ltb (length room) (length name)) (λ _ _. omega arith) (λ _. served_bare)
+name_bare part room = wrote_bare (plain_wrote (name_in part) room)
 
 pub read_bare : ReadBare
 read_bare key = go (read_key key)
   where
-    go : (o : Option Parts) → Bare (read_of o).answer (read_number o)
+    go : (o : Option Parts) → Bare (answer_of (read_of o)) (read_number o)
     go none h = refl
-    go (some p) h = absurd (true≢false h)
+    go (some p) h = served_bare h
 
 pub sheet_bare : SheetBare
-unfolding sheet_wrote
-sheet_bare es room = chosen WroteBare (writable es room) (λ _. served_bare) (λ _ _. omega arith)
+sheet_bare es room = wrote_bare (sheet_wrote es room)
 
 pub edit_bare : EditBare
-unfolding edit_of
-edit_bare room stated tag to =
-    let n : ℕ = edit_answer room stated tag to in
-    chosen (λ (bytes : ℕ). Bare n (packed n bytes)) (eqb n 0) (λ e. rw (eqb-true n 0 e) served_bare) (λ _ _. omega arith)
+edit_bare room stated tag to = wrote_bare (edit_of room stated tag to)
 
 pub block_bare : BlockBare
-unfolding located_of
-block_bare service factory tag =
-    chosen (λ (l : Located). Bare l.answer (located_number l)) (good_sheets service factory) (λ _. go (part_of service factory tag)) (λ _ _. omega arith)
+block_bare service factory tag = go (located_of service factory tag)
   where
-    go : (p : Part) → Bare (located_by p).answer (located_number (located_by p))
-    go (of_service a e) h = absurd (true≢false h)
-    go (of_factory a e) h = absurd (true≢false h)
+    go : (r : Result Located Refusal) → Bare (answer_of r) (located_number r)
+    go (Ok l) h = served_bare h
+    go (Err reason) h = omega arith
 
 pub opened_bare : OpenedBare
-unfolding opened_of
-opened_bare s = chosen (λ (o : Opened). Bare o.answer (opened_number o)) (is_capture s) (λ _. served_bare) (λ _ _. omega arith)
+opened_bare s = go (opened_of s)
+  where
+    go : (r : Result Opened Refusal) → Bare (answer_of r) (opened_number r)
+    go (Ok o) h = served_bare h
+    go (Err reason) h = omega arith
 
 pub step_bare : StepBare
 step_bare s row place = go (step_at s row place)
   where
-    go : (t : Step) → Bare (answer_of t) (step_number place t)
-    go (Next mark after next) h = absurd (true≢false h)
-    go End h = absurd (true≢false h)
-    go NotCapture h = refl
+    go : (r : Shows) → Bare (answer_of r) (step_number place r)
+    go (Ok (Some step)) h = served_bare h
+    go (Ok None) h = served_bare h
+    go (Err reason) h = omega arith
 
 pub shelf_bare : ShelfBare
-shelf_bare table room =
-    let n : ℕ = table_answer table room in
-    chosen (λ (bytes : ℕ). WroteBare (wrote n bytes)) (eqb n 0) (λ e. rw (eqb-true n 0 e) served_bare) (λ _ _. omega arith)
+shelf_bare table room = wrote_bare (table_wrote table room)
 
 -- ---- the pack
 

@@ -1,10 +1,10 @@
 -- Beside the state, a refusal's other numbers are 0: what a C caller gets of a refusal is its answer and nothing above it.
 -- Assumes nothing: these are definitions.
-use Rattle.std.specs.Prelude.{Bool, false, cond, List, ◌≡◌, ℕ}
+use Rattle.std.specs.Prelude.{Bool, false, cond, List, ◌≡◌, ℕ, Result}
 use Rattle.std.proofs.Math.Option.{Option}
 use Rattle.area.specs.Area.{is_area, no_state}
 use Rattle.calls.specs.Calls.{sampled, sample_number, transacted, transact_number}
-use Rattle.capture.specs.Walk.{opened_of, step_at, answer_of}
+use Rattle.capture.specs.Walk.{opened_of, step_at}
 use Rattle.charger_area.specs.Area.{is_charger_area}
 use Rattle.charger_calls.specs.Calls as chargers
 use Rattle.commands.specs.Answers.{served}
@@ -12,9 +12,10 @@ use Rattle.names.specs.Names.{name_in, plain_wrote}
 use Rattle.key.specs.Key.{read_key, read_of}
 use Rattle.key_writer.specs.Writing.{key_wrote}
 use Rattle.pack.specs.declared.Sample.{Sample}
-use Rattle.packed.specs.Packed.{check_number, comparison_number, wrote_number, edited_number, opened_number, read_number, located_number, step_number}
+use Rattle.packed.specs.Packed.{check_number, comparison_number, wrote_number, opened_number, read_number, located_number, step_number}
 use Rattle.pec.specs.Messages.{exchange_check, bit_comparison}
-use Rattle.rooms.specs.declared.Wrote.{Wrote}
+use Rattle.refusals.specs.Numbers.{answer_of}
+use Rattle.refusals.specs.declared.Refusal.{Refusal}
 use Rattle.sheet.specs.Block.{located_of}
 use Rattle.sheet.specs.Sheet.{Entry}
 use Rattle.sheet_edit.specs.Edit.{edit_of}
@@ -27,16 +28,16 @@ use Rattle.thirteen_calls.specs.Calls as thirteens
 abbrev pub Bare : ℕ → ℕ → Type 0
 Bare answer number = served answer ≡ false → number ≡ answer
 
-abbrev pub WroteBare : Wrote → Type 0
-WroteBare w = Bare w.answer (wrote_number w)
+abbrev pub WroteBare : Result ℕ Refusal → Type 0
+WroteBare r = Bare (answer_of r) (wrote_number r)
 
 -- ---- messages, keys, sheets, captures, the shelf
 
 abbrev pub CheckBare : Type 0
-CheckBare = (xs : List ℕ) → Bare (exchange_check xs).answer (check_number (exchange_check xs))
+CheckBare = (xs : List ℕ) → Bare (answer_of (exchange_check xs)) (check_number (exchange_check xs))
 
 abbrev pub ComparisonBare : Type 0
-ComparisonBare = (xs ys : List ℕ) → Bare (bit_comparison xs ys).answer (comparison_number (bit_comparison xs ys))
+ComparisonBare = (xs ys : List ℕ) → Bare (answer_of (bit_comparison xs ys)) (comparison_number (bit_comparison xs ys))
 
 abbrev pub KeyBare : Type 0
 KeyBare = (maker device : List ℕ) (date serial : ℕ) (room : List ℕ) → WroteBare (key_wrote maker device date serial room)
@@ -45,19 +46,19 @@ abbrev pub NameBare : Type 0
 NameBare = (part room : List ℕ) → WroteBare (plain_wrote (name_in part) room)
 
 abbrev pub ReadBare : Type 0
-ReadBare = (key : List ℕ) → Bare (read_of (read_key key)).answer (read_number (read_key key))
+ReadBare = (key : List ℕ) → Bare (answer_of (read_of (read_key key))) (read_number (read_key key))
 
 abbrev pub SheetBare : Type 0
 SheetBare = (es : List Entry) (room : List ℕ) → WroteBare (sheet_wrote es room)
 
 abbrev pub EditBare : Type 0
-EditBare = (room : List ℕ) (stated tag : ℕ) (to : Option (List ℕ)) → Bare (edit_of room stated tag to).answer (edited_number (edit_of room stated tag to))
+EditBare = (room : List ℕ) (stated tag : ℕ) (to : Option (List ℕ)) → WroteBare (edit_of room stated tag to)
 
 abbrev pub BlockBare : Type 0
-BlockBare = (service factory : List ℕ) (tag : ℕ) → Bare (located_of service factory tag).answer (located_number (located_of service factory tag))
+BlockBare = (service factory : List ℕ) (tag : ℕ) → Bare (answer_of (located_of service factory tag)) (located_number (located_of service factory tag))
 
 abbrev pub OpenedBare : Type 0
-OpenedBare = (s : List ℕ) → Bare (opened_of s).answer (opened_number (opened_of s))
+OpenedBare = (s : List ℕ) → Bare (answer_of (opened_of s)) (opened_number (opened_of s))
 
 abbrev pub StepBare : Type 0
 StepBare = (s : List ℕ) (row place : ℕ) → Bare (answer_of (step_at s row place)) (step_number place (step_at s row place))

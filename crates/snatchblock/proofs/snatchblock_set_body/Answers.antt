@@ -1,6 +1,5 @@
 -- `snatchblock::snatchblock_set_body` meets its contract.
 -- Assumes nothing.
-use borrow.Author.Rules.{rules}
 use Prim.Native.Nat.{◌≤◌}
 use native.Mathlib.Omega.{arith}
 use Rattle.rooms.proofs.Rooms.{all_bytes}
