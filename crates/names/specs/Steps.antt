@@ -5,6 +5,15 @@ use Rattle.names.specs.declared.Ending.{Ending}
 use Rattle.names.specs.declared.Ending.TheVariants.{Stopped, Ended, Bad}
 use Rattle.names.specs.Names.{Name, bad, ended, stopped, escape, unescaped}
 
+-- what reading comes to as one number, where it goes on at the place `at` after n bytes of the name, in bytes whose length is `last`
+abbrev pub number_of : Name → ℕ → ℕ → ℕ → ℕ
+-- a bad escape: the length
+number_of bad at n last = last
+-- a name that the last byte ends: above the length, by one and by the bytes of the name; over 32 bytes: the length
+number_of (ended name) at n last = cond (leb (n + length name) 32) (last + 1 + (n + length name)) last
+-- a name that a 2F ends: the place of that 2F, which is below the length; over 32 bytes: the length
+number_of (stopped name rest) at n last = cond (leb (n + length name) 32) (at + length (escape name)) last
+
 -- what the code says of a reading that goes on at the place `at` after n bytes of the name: where its 2F stands, or how many bytes the name has; over 32 bytes it is bad
 abbrev pub ending_of : Name → ℕ → ℕ → Ending
 ending_of bad at n = Bad

@@ -2,7 +2,7 @@ use Rattle.names.proofs.Unescaping.{plain-none, plain-some, plain-long, plain-wr
 use Rattle.names.proofs.unescape.Goals as goal
 
 pub returns-in_default : goal.returns-in_default
-returns-in_default c = let n = plain-none c.args.part.now c.plain.ensures c.in_default.not-Ended in record { value = rw n; room_after = rw n }
+returns-in_default c = let n = plain-none c.args.part.now c.read_from.ensures c.in_default.not-Ended in record { value = rw n; room_after = rw n }
 
 pub returns-then-room-n : goal.returns-then-room-n
 returns-then-room-n c =
