@@ -77,9 +77,9 @@ step_number place step = packed (answer_of step) (shown_of_row place step)
 abbrev pub OpenedFits : Opened → Type 0
 OpenedFits o = (o.rows < 256) × (o.place < 65536)
 
--- names within the longest key
+-- a maker part and a device part whose lengths fit
 abbrev pub FoundFits : Found → Type 0
-FoundFits f = (f.maker_end < 256) × (f.device_start ≤ f.device_end) × (f.device_end < 256)
+FoundFits f = (f.maker_end < 256) × (f.device_start ≤ f.device_end) × (f.device_end - f.device_start < 256)
 
 -- a part within the longest sheet
 abbrev pub LocatedFits : Located → Type 0
