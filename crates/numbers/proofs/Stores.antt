@@ -21,6 +21,11 @@ numbers_length : (widths l : List ℕ) (at : ℕ) → length (numbers_at widths 
 numbers_length [] l at = refl
 numbers_length (n ∷ widths) l at = ap suc (numbers_length widths l (at + n))
 
+-- a bound on each element is one on all
+pub all_below : (bound : ℕ) (l : List ℕ) → ((i : ℕ) → get_or l i 0 < bound) → Below bound l
+all_below bound [] h = tt
+all_below bound (x ∷ l) h = (h 0, all_below bound l (λ i. h (suc i)))
+
 -- a number more below a bound
 below_append : (bound : ℕ) (xs : List ℕ) (x : ℕ) → Below bound xs → x < bound → Below bound (xs ++ (x ∷ []))
 below_append bound [] x b h = (h, tt)

@@ -132,8 +132,8 @@ pub fn put_numbers<T: Number>(part: &mut [u8], at: usize, values: &[T])
     }
 }
 
-// The n bytes at a place, at most 8, as a number.
-fn read(part: &[u8], at: usize, n: usize) -> u64
+// The number in n bytes at a place, at most 8.
+pub fn number_of_width(part: &[u8], at: usize, n: usize) -> u64
     requires { (at + n ≤ length part.now) × (n ≤ 8) }
     ensures { (result ≡ number_at n part.now at) × (result < 256 ^ n) }
 {
@@ -149,7 +149,7 @@ pub fn number_at<T: Number>(part: &[u8], at: usize) -> T
     requires { at + T.WIDTH ≤ length part.now }
     ensures { result ≡ T.of (number_at T.WIDTH part.now at) }
 {
-    T::from_number(read(part, at, T::WIDTH))
+    T::from_number(number_of_width(part, at, T::WIDTH))
 }
 
 // As many numbers as asked for, from a place on.

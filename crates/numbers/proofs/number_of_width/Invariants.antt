@@ -1,7 +1,7 @@
 -- What is found is the number of the bytes from place i on.
 use Rattle.std.proofs.Common.{◌≡◌, ◌+◌, ◌-◌, ◌^◌, ◌<◌}
 use Rattle.numbers.specs.Numbers.{number_at}
-use Rattle.numbers.proofs.read.Given as goal
+use Rattle.numbers.proofs.number_of_width.Given as goal
 
 abbrev pub invariant-loop-i : goal.invariant-loop-i
 invariant-loop-i l =

@@ -1,7 +1,7 @@
 use Rattle.std.proofs.Common.{◌≡◌, ◌+◌, ◌-◌, arith}
 use native.Mathlib.Nat.{sub-zero, add-zero}
 use Rattle.numbers.proofs.Stores.{read_turn}
-use Rattle.numbers.proofs.read.Goals as goal
+use Rattle.numbers.proofs.number_of_width.Goals as goal
 
 pub loop-i-init : goal.loop-i-init
 loop-i-init c = let none : c.args.n - c.args.n ≡ 0 = omega arith in record { is = rw none; small = rw none (omega arith) }
@@ -11,7 +11,7 @@ loop-i-preserved c =
     let l = c.loop-i in
     let a = c.args in
     let byte = c.type_inv.part (a.at + (l.i - 1)) in
-    let t = read_turn a.part.now a.at a.n l.i c.loop-i-test.true (omega arith) (omega arith) (omega (arith, byte)) l.invariant.is l.invariant.small in
+    let t = read_turn a.part.now a.at a.n l.i (omega arith) (omega arith) (omega arith) (omega (arith, byte)) l.invariant.is l.invariant.small in
     rw c.from.ensures (record { is = t.0; small = t.1 })
 
 pub returns : goal.returns
