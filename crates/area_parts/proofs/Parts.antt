@@ -16,7 +16,7 @@ use Rattle.pack.specs.Fits.{SettingsFit, HostFit, LatestFit, TankFit, TimersFit}
 use Rattle.recent.specs.Fits.{Below, RecentFit}
 use Rattle.numbers.specs.Numbers.{number_bytes, numbers_bytes, number_at, numbers_at, bytes_taken, Within, flag_of, flagged, flags}
 use Rattle.area_parts.specs.Parts.{settings_widths, settings_numbers, settings_from, settings_bytes, settings_in, is_settings, host_widths, host_numbers, host_from, host_bytes, host_in, is_host, latest_widths, latest_numbers, latest_from, latest_bytes, latest_in, tank_widths, tank_numbers, tank_from, tank_bytes, tank_in, is_tank, timers_widths, timers_numbers, timers_from, timers_bytes, timers_in, recent_widths, recent_numbers, recent_from, recent_bytes, recent_in}
-use Rattle.numbers.proofs.Numbers.{numbers_back, all-again}
+use Rattle.numbers.proofs.Numbers.{flag_is, numbers_back, all-again}
 use Rattle.numbers.proofs.Stores.{bytes_length}
 use Rattle.pack.specs.declared.Host.{Host}
 use Rattle.recent.specs.declared.Recent.{Recent}
@@ -31,10 +31,14 @@ pub flag_back : (b : Bool) → flagged (flag_of b) ≡ b
 flag_back true = refl
 flag_back false = refl
 
+-- a flag is its own byte
+pub flag_own_byte : (b : Bool) → flag_of b ≡ flag_of b % 256
+flag_own_byte true = refl
+flag_own_byte false = refl
+
 -- a flag's byte
 pub flag_byte : (b : Bool) → from_bool b ≡ flag_of b % 256
-flag_byte true = refl
-flag_byte false = refl
+flag_byte b = flag_is b ∙ flag_own_byte b
 
 pub is_flag : (b : Bool) → leb (flag_of b) 1 ≡ true
 is_flag true = refl

@@ -9,15 +9,17 @@ use native.Mathlib.Omega.{arith}
 use lib.Dec.{eqb}
 use lib.ListN.{length}
 use borrow.Author.Tests.{ltb-true, lt-ltb, eqb-true, eq-eqb}
-use Rattle.std.specs.Prelude.{Result, Err, IsOk, is_ok}
+use Rattle.std.specs.Prelude.{◌↔◌, Result, Err, IsOk, is_ok}
 use Rattle.refusals.specs.declared.Refusal.{Refusal}
 use Rattle.refusals.specs.declared.Refusal.TheVariants.{TooManyRows, BadRow}
+use Rattle.refusals.specs.Numbers.{number_of, answer_of}
+use Rattle.refusals.proofs.Tells.{reason_told, served_told}
 use Rattle.shelf.specs.Shelf.{any_bad, total, lowest_from, report_of}
 use Rattle.shelf.specs.declared.Row.{Row}
 use Rattle.shelf_row.specs.Rows.{is_bad}
 use Rattle.shelf_row.specs.declared.Figures.{Figures}
 use Rattle.shelf.proofs.Steps.{report_large, report_bad, report_good}
-use Rattle.shelf_laws.specs.Promises.{row, Bad, Sixteen, Seventeen, ServedExactly, NoFigures, EmptyTable}
+use Rattle.shelf_laws.specs.Promises.{row, Bad, Sixteen, Seventeen, ServedExactly, NoFigures, SixteenAnswered, SeventeenAnswered, ZeroAnswered, EmptyTable}
 use Rattle.shelf_laws.proofs.Cases.{Case, large, bad, good, case, not_refused, good_is}
 
 -- ---- a bad row
@@ -87,6 +89,24 @@ no_figures rows h = by (case rows)
     by (large many e) = inl e
     by (bad few b e) = inr e
     by (good g) = let z : false ≡ true = rw g.is at h in absurd (cc)
+
+-- ---- by number
+
+module _ (rows : List Row) where
+  answered : {R : Type 0} (reason : Refusal) → (report_of rows ≡ Err reason) ↔ R → (answer_of (report_of rows) ≡ number_of reason) ↔ R
+  answered reason s = let t = reason_told (report_of rows) reason in ((λ h. s.0 (t.0 h)), (λ w. t.1 (s.1 w)))
+
+pub sixteen_answered : SixteenAnswered
+sixteen_answered rows = answered rows TooManyRows (sixteen rows)
+
+pub seventeen_answered : SeventeenAnswered
+seventeen_answered rows = answered rows BadRow (seventeen rows)
+
+pub zero_answered : ZeroAnswered
+zero_answered rows =
+    let s = served_exactly rows in
+    let t = served_told (report_of rows) in
+    ((λ h. s.0 (t.0 h)), (λ w. t.1 (s.1 w)))
 
 pub empty_table : EmptyTable
 unfolding any_bad total lowest_from

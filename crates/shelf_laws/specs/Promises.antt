@@ -4,6 +4,7 @@ use Rattle.std.specs.Prelude.{ℕ, ◌+◌, ◌*◌, ◌^◌, ◌≤◌, ◌<◌
 use mathlib.Core.List.{List, [], ◌∷◌, ◌++◌, Perm}
 use Rattle.refusals.specs.declared.Refusal.{Refusal}
 use Rattle.refusals.specs.declared.Refusal.TheVariants.{TooManyRows, BadRow}
+use Rattle.refusals.specs.Numbers.{answer_of}
 use Rattle.shelf.specs.Shelf.{no_row, at_place, report_of, total_remaining, total_full}
 use Rattle.shelf.specs.Ratios.{All, AtMost, Under}
 use Rattle.shelf.specs.declared.Row.{Row}
@@ -98,6 +99,18 @@ ServedExactly = (rows : List Row) → IsOk (report_of rows) ↔ ((length rows �
 -- a refusal is one of these two alone, and so gives no figures (RULES 13.6)
 abbrev pub NoFigures : Type 0
 NoFigures = (rows : List Row) → IsErr (report_of rows) → (report_of rows ≡ Err TooManyRows) ⊎ (report_of rows ≡ Err BadRow)
+
+-- by number: the answer is 16 exactly for more than 64 rows
+abbrev pub SixteenAnswered : Type 0
+SixteenAnswered = (rows : List Row) → (answer_of (report_of rows) ≡ 16) ↔ (64 < length rows)
+
+-- 17 exactly for at most 64 rows of which one is bad
+abbrev pub SeventeenAnswered : Type 0
+SeventeenAnswered = (rows : List Row) → (answer_of (report_of rows) ≡ 17) ↔ ((length rows ≤ 64) × ((k : ℕ) × (k < length rows) × Bad (row rows k)))
+
+-- 0 exactly for neither
+abbrev pub ZeroAnswered : Type 0
+ZeroAnswered = (rows : List Row) → (answer_of (report_of rows) ≡ 0) ↔ ((length rows ≤ 64) × ((k : ℕ) → k < length rows → Bad (row rows k) → ⊥))
 
 -- ---- order
 
