@@ -540,6 +540,10 @@ static void sheet_writing(void)
     CHECK(room_is(NULL, 0), true);
     CHECK(snatchblock_write_sheet(room, SHEET_ROOM, false, NO_BYTES, false, NO_BYTES, false, NO_BYTES, false, NO_BYTES), PACKED(0, 1));
     CHECK(room_is(no_names, 1), true);
+    /* an absent body's bytes are ignored, however long */
+    new_room();
+    CHECK(snatchblock_write_sheet(room, SHEET_ROOM, false, NO_BYTES, false, slashes, 33, false, NO_BYTES, false, NO_BYTES), PACKED(0, 1));
+    CHECK(room_is(no_names, 1), true);
     /* four names of 32 bytes fill the least room to the last byte */
     new_room();
     CHECK(snatchblock_write_sheet(room, SHEET_ROOM, true, slashes, 32, true, slashes, 32, true, slashes, 32, true, slashes, 32), PACKED(0, 145));
