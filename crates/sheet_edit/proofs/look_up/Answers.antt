@@ -47,7 +47,7 @@ pub overflow_sub-span : goal.overflow_sub-span
 overflow_sub-span c =
     let P = (passed c.args.room.now c.args.stated c.args.tag c.args.size tt (sym c.in_ok-tested.ensures)).0 in
     let z = numbers c.args.room.now c.args.stated c.args.tag c.args.size (λ i. grind arith) P c.from-rows.ensures c.span_of-span.ensures in
-    z.up
+    omega (arith, z.up)
 
 pub rows_size-requires : goal.rows_size-requires
 rows_size-requires c =
