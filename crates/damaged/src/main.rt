@@ -2,7 +2,7 @@
 #![tactic(auto)]
 
 ghost use Rattle.std.specs.Prelude.{◌≡◌, IfOk};
-ghost use Rattle.reader.specs.Reading.{start_of, after_of, moved};
+ghost use Rattle.reader.specs.Reading.{start_of, step_of, after_of, moved};
 
 use capture::Step;
 use reader::Reader;
@@ -48,13 +48,14 @@ fn sheet_written(rt: &impl Print, wrote: Result<usize, Refusal>, room: &[u8]) ->
 fn write_sheets(rt: &impl Print) -> io::Result<()> {
     let mut room = [0xEEu8; 145];
     let mut small = [0xEEu8; 144];
-    let served = sheet_writer::write_sheet(&mut room, Some(b"Acme"), None, Some(b"LION"), None);
+    let absent: Option<&[u8]> = false.then_some(b"?");
+    let served = sheet_writer::write_sheet(&mut room, Some(b"Acme"), absent, Some(b"LION"), None);
     sheet_written(rt, served, &room)?;
     let refused = sheet_writer::write_sheet(&mut small, Some(b"Acme"), None, Some(b"LION"), None);
     sheet_written(rt, refused, &small)
 }
 
-// No body over 32 bytes; a body of none is there all the same.
+// No body over 32 bytes; an absent body's bytes are ignored; a body of none is there all the same.
 fn write_long_bodies(rt: &impl Print) -> io::Result<()> {
     let long = [0x41u8; 33];
     let mut room = [0xEEu8; 145];
@@ -66,7 +67,8 @@ fn write_long_bodies(rt: &impl Print) -> io::Result<()> {
         None,
     );
     sheet_written(rt, over, &room)?;
-    let empty = sheet_writer::write_sheet(&mut room, Some(b""), None, None, None);
+    let absent: Option<&[u8]> = false.then_some(&long);
+    let empty = sheet_writer::write_sheet(&mut room, Some(b""), absent, None, None);
     sheet_written(rt, empty, &room)
 }
 
@@ -199,20 +201,21 @@ fn turn<'a>(rt: &impl Print, r: Reader<'a>) -> io::Result<Reader<'a>>
     Ok(reader::after(r))
 }
 
-// The reader after three rows, each printed.
-fn past_three<'a>(rt: &impl Print, bytes: &'a [u8]) -> io::Result<Reader<'a>>
-    ensures { IfOk result (λ gone. gone ≡ moved 3 (start_of bytes.entry)) }
+// What a reader is at after three rows, each printed.
+fn past_three(rt: &impl Print, bytes: &[u8]) -> io::Result<Result<Option<Step>, Refusal>>
+    ensures { IfOk result (λ shown. shown ≡ step_of (moved 3 (start_of bytes.entry))) }
 {
     let first = turn(rt, reader::start(bytes))?;
     let second = turn(rt, first)?;
-    turn(rt, second)
+    let third = turn(rt, second)?;
+    Ok(reader::next(third))
 }
 
 // A capture of up to three rows, as a reader walks it to its end.
 fn walk(rt: &impl Print, bytes: &[u8]) -> io::Result<()> {
     println!(rt; "a reader:")?;
-    let last = past_three(rt, bytes)?;
-    print_shown(rt, reader::next(last), b"")
+    let shown = past_three(rt, bytes)?;
+    print_shown(rt, shown, b"")
 }
 
 // The answer and the length; then the whole room.
