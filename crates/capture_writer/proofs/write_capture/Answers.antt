@@ -18,14 +18,10 @@ pub bounds-room-0 : goal.bounds-room-0
 bounds-room-0 c = let o = not_refused _ _ _ c.args.room.now c.allowed.ensures c.in_ok-allowed.was in omega (arith, o.0)
 
 pub put_rows-requires : goal.put_rows-requires
-put_rows-requires c =
-    let o = not_refused _ _ _ c.args.room.now c.allowed.ensures c.in_ok-allowed.was in
-    (sym o.1.even, simp length-set (omega (arith, o.0, o.1.even)))
+put_rows-requires c = let o = not_refused _ _ _ c.args.room.now c.allowed.ensures c.in_ok-allowed.was in (sym o.1.even, simp length-set (omega (arith, o.0, o.1.even)))
 
 pub put_bytes-requires : goal.put_bytes-requires
-put_bytes-requires c =
-    let o = not_refused _ _ _ c.args.room.now c.allowed.ensures c.in_ok-allowed.was in
-    omega (arith, o.0, o.1.even, c.put_rows.auto.room, length-set c.args.room.now 0 (length c.args.marks.now))
+put_bytes-requires c = let o = not_refused _ _ _ c.args.room.now c.allowed.ensures c.in_ok-allowed.was in omega (arith, o.0, o.1.even, c.put_rows.auto.room, length-set c.args.room.now 0 (length c.args.marks.now))
 
 pub returns : goal.returns
 returns c =
