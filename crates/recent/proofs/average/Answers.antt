@@ -6,33 +6,39 @@ use lib.Signed.{quot_z, ◌<ℤ◌}
 use Rattle.recent.specs.Recent.{sum_of, average_of}
 use Rattle.recent.proofs.Bound.{kept_given, mean_fits}
 use Rattle.recent.proofs.Soundness.{recent_facts}
-use Rattle.recent.proofs.Totals.{sum_cut}
+use Rattle.recent.proofs.Totals.{can_longer, sum_cut}
 use Rattle.recent.proofs.average.Goals as goal
 use Rattle.recent.proofs.average.Goals.{After-product16-ms}
 
 -- the quotient as the code makes it
-divided : (z : ℤ) (n m : ℕ) → SFits w32 z → 0 < n → n ≤ 60 → m ≡ 1000 * n
-    → to_z w32 (of_z w32 (quot_z (to_z w32 (of_z w32 z)) (to_z w32 m))) ≡ quot_z z (pos (1000 * n))
-divided z n m f p h e =
-    let few : SFits w32 (pos (1000 * n)) = record { sfits = omega arith } in
-    let some : pos 0 <ℤ pos (1000 * n) = omega (arith, ints) in
-    ap (λ (k : ℕ). to_z w32 (of_z w32 (quot_z (to_z w32 (of_z w32 z)) (to_z w32 k)))) e ∙ quot_is w32 z (pos (1000 * n)) f few (quot_fits w32 z (pos (1000 * n)) f some)
+divided : (z : ℤ) (m : ℕ) → SFits w32 z → 0 < m → m ≤ 60000
+    → to_z w32 (of_z w32 (quot_z (to_z w32 (of_z w32 z)) (to_z w32 m))) ≡ quot_z z (pos m)
+divided z m f p h =
+    let few : SFits w32 (pos m) = record { sfits = omega arith } in
+    let some : pos 0 <ℤ pos m = omega (arith, ints) in
+    quot_is w32 z (pos m) f few (quot_fits w32 z (pos m) f some)
 
 -- the mean of what is kept, of its sum as the code cuts it
 mean : (c : goal.After-product16-ms)
     → to_z w32 (of_z w32 (quot_z (to_z w32 (of_z w32 c.summed-sum.result)) (to_z w32 c.product16-ms.result)))
-    ≡ quot_z (sum_of c.args.r.totals c.args.r.count) (pos (1000 * c.args.r.count))
+    ≡ quot_z (sum_of c.args.r.totals c.args.r.count) (pos c.product16-ms.result)
 mean c =
     let r = c.args.r in
+    let m = c.product16-ms.result in
     let f = recent_facts r c.requires in
     let size : length (take r.count r.totals) ≡ r.count = length-take-le r.count r.totals (omega arith) in
     let e : c.summed-sum.result ≡ sum_of r.totals r.count =
     c.summed-sum.ensures ∙ ap (sum_of (take r.count r.totals)) size ∙ sum_cut r.totals r.count r.count (le_refl r.count) in
-    divided c.summed-sum.result r.count c.product16-ms.result (record { sfits = c.summed-sum.type_inv }) (omega (arith, c.if-r-eq0.false)) f.most c.product16-ms.ensures
-    ∙ ap (λ (z : ℤ). quot_z z (pos (1000 * r.count))) e
+    divided c.summed-sum.result m (record { sfits = c.summed-sum.type_inv }) (omega (arith, c.product16-ms.ensures, c.if-r-eq0.false)) (omega (arith, c.product16-ms.ensures, f.most))
+    ∙ ap (λ (z : ℤ). quot_z z (pos m)) e
 
-fits : (c : goal.After-product16-ms) → SFits w16 (quot_z (sum_of c.args.r.totals c.args.r.count) (pos (1000 * c.args.r.count)))
-fits c = mean_fits (1000 * c.args.r.count) (sum_of c.args.r.totals c.args.r.count) (kept_given c.args.r c.requires)
+-- it fits: divided by the length of what is kept, or by more
+fits : (c : goal.After-product16-ms) → SFits w16 (quot_z (sum_of c.args.r.totals c.args.r.count) (pos c.product16-ms.result))
+fits c =
+    let r = c.args.r in
+    let m = c.product16-ms.result in
+    let s = sum_of r.totals r.count in
+    mean_fits m s (can_longer (1000 * r.count) m s (omega (arith, c.product16-ms.ensures, (recent_facts r c.requires).most)) (kept_given r c.requires))
 
 pub returns-then-r-eq0 : goal.returns-then-r-eq0
 unfolding average_of
@@ -52,4 +58,5 @@ unfolding average_of
 returns c =
     let p = (goal.at.returns c).After-product16-ms in
     rw (ne_eqb _ _ c.if-r-eq0.false)
-    (c.kept.ensures ∙ ap (λ (z : ℤ). of_z w16 (to_z w16 (of_z w16 z))) (mean p) ∙ ap (of_z w16) (to_z-of_z (fits p)))
+    (c.kept.ensures ∙ ap (λ (z : ℤ). of_z w16 (to_z w16 (of_z w16 z))) (mean p) ∙ ap (of_z w16) (to_z-of_z (fits p))
+    ∙ ap (λ (m : ℕ). of_z w16 (quot_z (sum_of c.args.r.totals c.args.r.count) (pos m))) p.product16-ms.ensures)
