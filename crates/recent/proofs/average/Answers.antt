@@ -1,7 +1,7 @@
 -- `recent::average` meets its contract: the latest, or the kept totals summed and divided by their length.
 -- Assumes nothing.
 use Rattle.std.proofs.Common.{◌≡◌, ℕ, ◌*◌, ◌<◌, ◌≤◌, length, length-take-le, take, ℤ, pos, ap, ◌∙◌, subst, sym, le_refl, arith, to_z-of_z, w16, w32, SFits, to_z, of_z, eq-eqb, ne_eqb}
-use Rattle.std.proofs.lemmas.Int.{ints, to_z_pos, quot_is, quot_fits}
+use Rattle.std.proofs.lemmas.Int.{ints, quot_is, quot_fits}
 use lib.Signed.{quot_z, ◌<ℤ◌}
 use Rattle.recent.specs.Recent.{sum_of, average_of}
 use Rattle.recent.proofs.Bound.{kept_given, mean_fits}
