@@ -1,8 +1,9 @@
 -- What currents can give in so many milliseconds: as facts, of sums, and as words.
 -- Assumes nothing.
-use Rattle.std.proofs.Common.{◌≡◌, ℕ, zero, suc, ◌+◌, ◌-◌, ◌*◌, ◌<◌, ◌≤◌, true, ◌&&◌, leb, List, [], ◌∷◌, ◌++◌, get_or, take, ℤ, pos, negsuc, ◌+ℤ◌, neg_ℤ, sym, refl, ap, ◌∙◌, arith, get_or-take, w32, to_z, SFits, le-leb, leb-true}
+use Rattle.std.proofs.Common.{◌≡◌, ℕ, zero, suc, ◌+◌, ◌-◌, ◌*◌, ◌<◌, ◌≤◌, true, ◌&&◌, leb, List, [], ◌∷◌, ◌++◌, length, get_or, take, ℤ, pos, negsuc, ◌+ℤ◌, neg_ℤ, sym, refl, ap, ◌∙◌, arith, get_or-take, w32, to_z, SFits, le-leb, leb-true}
 use mathlib.Core.Bool.{and-true, and_assoc, and-eq-true_iff}
 use borrow.Author.Tests.{lt-leb}
+use Rattle.std.proofs.lemmas.List.{take_more}
 use lib.IntN.{sub_ℕ}
 use lib.Signed.{le_z}
 use Rattle.recent.specs.Recent.{can_give, total_sound, totals_sound, sum_of}
@@ -74,6 +75,12 @@ unfolding totals_sound
 totals_append [] b = refl
 totals_append (t ∷ a) b =
     ap (λ x. total_sound 1000 t && x) (totals_append a b) ∙ sym (and_assoc (total_sound 1000 t) (totals_sound a) (totals_sound b))
+
+-- whether the first are, and one more
+pub totals_next : (l : List ℕ) (i : ℕ) → i < length l → totals_sound (take i l) && total_sound 1000 (get_or l i 0) ≡ totals_sound (take (i + 1) l)
+unfolding totals_sound
+totals_next l i h =
+    ap (λ b. totals_sound (take i l) && b) (sym (and-true (total_sound 1000 (get_or l i 0)))) ∙ sym (totals_append (take i l) (get_or l i 0 ∷ [])) ∙ ap totals_sound (sym (take_more l i 0 h))
 
 -- where all are, each is
 pub totals_each : (l : List ℕ) (n i : ℕ) → i < n → totals_sound (take n l) ≡ true → total_sound 1000 (get_or l i 0) ≡ true

@@ -36,10 +36,15 @@ fn total_sound(ms: u16, total: u32) -> bool
     (-out <= total) & (total <= into)
 }
 
+// No way out of the loop before its end: so it runs on several totals at once.
 fn totals_sound(totals: &[u32]) -> bool
     ensures { result ≡ totals_sound totals.now }
 {
-    totals.iter().all(|total| total_sound(1000, *total))
+    let mut all = true;
+    for total in totals {
+        all &= total_sound(1000, *total);
+    }
+    all
 }
 
 // Whether 0 to 60 complete seconds are kept and one under 1,000 ms is begun, each with a total that currents can give.

@@ -1,19 +1,18 @@
 -- `recent::totals_sound` meets its contract.
 -- Assumes nothing.
-use Rattle.std.proofs.Common.{◌≡◌, ℕ, List, [], ◌∷◌, ◌&&◌, refl, ap, ◌∙◌, rules, tests}
-use Rattle.std.specs.List.{list_all}
-use Rattle.std.proofs.lemmas.Iterator.{YieldsList-from_slice}
-use Rattle.std.proofs.lemmas.Iterator.Search.{all_from_yields_List}
-use Rattle.recent.specs.Recent.{total_sound, totals_sound}
+use Rattle.std.proofs.Common.{◌&&◌, take, refl, ap, ◌∙◌, rules}
+use Rattle.recent.specs.Recent.{totals_sound}
+use Rattle.recent.proofs.Totals.{totals_next}
 use Rattle.recent.proofs.totals_sound.Goals as goal
 
-each : (l : List ℕ) → list_all (total_sound 1000) l ≡ totals_sound l
+pub loop-total-init : goal.loop-total-init
 unfolding totals_sound
-each [] = refl
-each (t ∷ l) = ap (λ b. total_sound 1000 t && b) (each l)
+loop-total-init c = refl
 
-pub returns : goal.returns
-returns c =
-    all_from_yields_List (total_sound 1000) _ _ _ c.all.ensures.ran (YieldsList-from_slice c.args.totals.now cc)
-    (λ x b q k. search (rules, tests))
-    ∙ each c.args.totals.now
+pub loop-total-preserved : goal.loop-total-preserved
+loop-total-preserved c =
+    let l = c.args.totals.now in
+    let i = c.loop-total.total-index in
+    ap (λ x. x && c.total_sound-all.result) c.loop-total.invariant
+    ∙ ap (λ x. totals_sound (take i l) && x) c.total_sound-all.ensures
+    ∙ totals_next l i (search rules)
