@@ -12,7 +12,6 @@ use borrow.Author.Tests.{ltb-true, lt-ltb, eqb-true, eq-eqb}
 use Rattle.std.specs.Prelude.{◌↔◌, Result, Err, IsOk, is_ok}
 use Rattle.refusals.specs.declared.Refusal.{Refusal}
 use Rattle.refusals.specs.declared.Refusal.TheVariants.{TooManyRows, BadRow}
-use Rattle.refusals.specs.Numbers.{number_of, answer_of}
 use Rattle.refusals.proofs.Tells.{reason_told, served_told}
 use Rattle.shelf.specs.Shelf.{any_bad, total, lowest_from, report_of}
 use Rattle.shelf.specs.declared.Row.{Row}
@@ -92,21 +91,18 @@ no_figures rows h = by (case rows)
 
 -- ---- by number
 
-module _ (rows : List Row) where
-  answered : {R : Type 0} (reason : Refusal) → (report_of rows ≡ Err reason) ↔ R → (answer_of (report_of rows) ≡ number_of reason) ↔ R
-  answered reason s = let t = reason_told (report_of rows) reason in ((λ h. s.0 (t.0 h)), (λ w. t.1 (s.1 w)))
+-- what is so exactly where another thing is, which is so exactly where a third is
+through : {A B C : Type 0} → A ↔ B → B ↔ C → A ↔ C
+through t s = ((λ a. s.0 (t.0 a)), (λ c. t.1 (s.1 c)))
 
 pub sixteen_answered : SixteenAnswered
-sixteen_answered rows = answered rows TooManyRows (sixteen rows)
+sixteen_answered rows = through (reason_told (report_of rows) TooManyRows) (sixteen rows)
 
 pub seventeen_answered : SeventeenAnswered
-seventeen_answered rows = answered rows BadRow (seventeen rows)
+seventeen_answered rows = through (reason_told (report_of rows) BadRow) (seventeen rows)
 
 pub zero_answered : ZeroAnswered
-zero_answered rows =
-    let s = served_exactly rows in
-    let t = served_told (report_of rows) in
-    ((λ h. s.0 (t.0 h)), (λ w. t.1 (s.1 w)))
+zero_answered rows = through (served_told (report_of rows)) (served_exactly rows)
 
 pub empty_table : EmptyTable
 unfolding any_bad total lowest_from
